@@ -12,9 +12,18 @@ use Rattle.run_words.specs.EachLine.{TellsEach}
 use Rattle.run_words.specs.Limits.{most_told}
 use Rattle.run_words.specs.PartPointing.{PointsAtLineIn}
 
+-- memory ran out for the lines
+abbrev pub is_lost : Refusals → Bool
+is_lost refusals = refusals.is_lost
+
 -- those that are told, in order; none where memory ran out for them
 abbrev pub told_lines : Refusals → List Refused
-told_lines refusals = if refusals.is_lost then [] else refusals.told.items
+told_lines refusals = if is_lost refusals then [] else refusals.told.items
+
+-- no line is told or counted, and none is lost
+abbrev pub TellsNothing : Refusals → Type 0
+TellsNothing refusals =
+    (told_lines refusals ≡ []) × (refusals.following ≡ 0) × (refusals.more ≡ 0) × (is_lost refusals ≡ false)
 
 abbrev pub line_of : Option Refused → Option ℕ
 line_of None = None
@@ -73,7 +82,7 @@ IsOneMore before after = (after ≡ before) ⊎ ((refused : Refused) × (after �
 
 -- at most one line more is told, behind those before; where memory runs out for them, none is told any more
 abbrev pub TellsOneMore : (before after : Refusals) → Type 0
-TellsOneMore before after = IsOneMore (told_lines before) (told_lines after) ⊎ (after.is_lost ≡ true)
+TellsOneMore before after = IsOneMore (told_lines before) (told_lines after) ⊎ (is_lost after ≡ true)
 
 -- one more, up to the greatest count
 abbrev pub one_more : (count : ℕ) → ℕ
@@ -106,7 +115,7 @@ CountsFurther before after =
 abbrev pub IsCountedIn : (before after : Refusals) → Type 0
 IsCountedIn before after = TellsOne before after ⊎ (CountsFollowing before after ⊎ CountsFurther before after)
 
--- one more line is told or counted, unless it is the last one again
+-- one more line is told or counted, unless it is taken for the last one again
 abbrev pub CountsOneMore : (before after : Refusals) → Type 0
 CountsOneMore before after = ((after.last ≡ before.last) × CountsNone before after) ⊎ IsCountedIn before after
 
@@ -114,7 +123,7 @@ CountsOneMore before after = ((after.last ≡ before.last) × CountsNone before 
 abbrev pub TellsNoMore : (before after : Refusals) → Type 0
 TellsNoMore before after =
     (told_lines after ≡ told_lines before) × (after.following ≡ before.following) × (after.more ≡ before.more)
-    × (after.is_lost ≡ before.is_lost)
+    × (is_lost after ≡ is_lost before)
 
 -- the words point at the front of the line, with its line in the whole input; a line that the part has not is left out
 abbrev pub TellsLine : (ahead part : List ℕ) → Refused → (words : List ℕ) → Type 0

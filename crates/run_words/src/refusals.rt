@@ -1,6 +1,6 @@
 //! Which lines of a script do nothing, as its run goes.
 ghost use Rattle.std.specs.Prelude.{◌≡◌, ◌≢◌, ◌<◌, ◌↔◌, ◌⊎◌, [], true, false, None, IsOk, IsTrue, OnOk, length, slice_get, vec_len};
-ghost use Rattle.run_words.specs.ToldLines.{does_nothing, is_refusal, refuses, refuses_begin, refuses_instance, refuses_number, told_lines, CountsOneMore, IsOneMore, TellsNoMore, TellsOneMore};
+ghost use Rattle.run_words.specs.ToldLines.{does_nothing, is_lost, is_refusal, refuses, refuses_begin, refuses_instance, refuses_number, told_lines, CountsOneMore, IsOneMore, TellsNoMore, TellsNothing, TellsOneMore};
 
 use crate::begin_numbers::{Numbers, Vacuums};
 use crate::event_lines::EventLines;
@@ -100,10 +100,7 @@ fn refused_start(event: &Event, reply: &Reply) -> Option<u64>
 impl Refusals {
     /// Of no event yet.
     pub fn new(alloc: Global) -> Self
-        ensures none { told_lines result ≡ [] }
-        ensures following { result.following ≡ 0 }
-        ensures further { result.more ≡ 0 }
-        ensures held { result.is_lost ≡ false }
+        ensures { TellsNothing result }
     {
         Refusals {
             events: 0,
@@ -124,7 +121,7 @@ impl Refusals {
         ensures some { OnOk result (0 < vec_len self.new.told) }
         ensures last { OnOk result (self.new.last ≡ line) }
         ensures counted { OnOk result (CountsOneMore self.old self.new) }
-        ensures held { self.new.is_lost ≡ self.old.is_lost }
+        ensures held { is_lost self.new ≡ is_lost self.old }
     {
         let is_first = self.told.is_empty();
         if line == self.last && !is_first {
@@ -154,7 +151,7 @@ impl Refusals {
         ensures more { OnOk result (IsOneMore self.old.told.items self.new.told.items) }
         ensures some { OnOk result (0 < vec_len self.new.told) }
         ensures counted { OnOk result (CountsOneMore self.old self.new) }
-        ensures held { self.new.is_lost ≡ self.old.is_lost }
+        ensures held { is_lost self.new ≡ is_lost self.old }
     {
         let line = self.lines.line_of(part, number);
         self.add(line, refusal)?;
@@ -175,7 +172,7 @@ impl Refusals {
         ensures some { does_nothing event.now reply.now ≡ true
             → OnOk result (0 < vec_len self.new.told) }
         ensures counted { OnOk result (CountsOneMore self.old self.new) }
-        ensures held { self.new.is_lost ≡ self.old.is_lost }
+        ensures held { is_lost self.new ≡ is_lost self.old }
     {
         if let Some(start) = refused_start(event, reply) {
             let numbers = self.vacuums.numbers(part, book);
@@ -216,8 +213,8 @@ impl Refusals {
     pub fn look(&mut self, part: &[u8], event: &Event, reply: &Reply, book: &Book<'_>)
         ensures stays { is_refusal reply.now ≡ false → TellsNoMore self.old self.new }
         ensures more { TellsOneMore self.old self.new }
-        ensures counted { CountsOneMore self.old self.new ⊎ (self.new.is_lost ≡ true) }
-        ensures some { does_nothing event.now reply.now ≡ true → self.new.is_lost ≡ false
+        ensures counted { CountsOneMore self.old self.new ⊎ (is_lost self.new ≡ true) }
+        ensures some { does_nothing event.now reply.now ≡ true → is_lost self.new ≡ false
             → 0 < length (told_lines self.new) }
     {
         let number = self.events;
