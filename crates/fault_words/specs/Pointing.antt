@@ -1,7 +1,8 @@
 -- What the words of a fault have to show.
-use Rattle.std.specs.Prelude.{ℕ, ◌≡◌, ◌-◌, ◌==◌, ◌&&◌, ◌⊎◌, ⊤, Bool, true, not, nat_le, List, ◌++◌, Option, Some, None, option_map, codes, drop, map, take}
-use Rattle.std.specs.List.{list_all}
-use Rattle.text_places.specs.Reading.{begins_word, end_before, without_comments}
+use Rattle.std.specs.Prelude.{ℕ, ◌≡◌, ◌-◌, ◌==◌, ◌&&◌, ◌||◌, ◌⊎◌, ⊤, Bool, true, not, nat_le, List, ◌++◌, Option, Some, None, option_map, bytes_eq, codes, drop, length, map, take}
+use Rattle.std.specs.List.{list_all, suffix_len}
+use Rattle.text_places.specs.Reading.{begins_word, end_before, first_word, without_comments}
+use Rattle.text_places.specs.Tokens.{first_token}
 use Rattle.text_places.specs.Landmarks.{HasNoProgram, HasNoStatement, HasNoTable, IsProgramPlace, IsStatementPlace, IsTablePlace}
 use Rattle.text_places.specs.Quotes.{pointed_out, visible}
 use Rattle.fault_words.specs.Blocks.{open_head, open_text}
@@ -20,9 +21,36 @@ PointsAt text place words = (sentence : List ℕ) × (words ≡ pointed_out text
 abbrev pub missing_semicolon : (text : List ℕ) → (place : ℕ) → List ℕ
 missing_semicolon text place = pointed_out text (end_before text place) (codes "a `;` is missing here")
 
+-- neither a `;` nor a `{`
+abbrev pub goes_on : (byte : ℕ) → Bool
+goes_on byte = not (byte == 59) && not (byte == 123)
+
+-- a `;`, a `{` or a `}`
+abbrev pub is_end : (byte : ℕ) → Bool
+is_end byte = not (goes_on byte) || byte == 125
+
+-- none of these ends the bytes
+abbrev pub is_unended : List ℕ → Bool
+is_unended bytes = suffix_len is_end bytes == 0
+
+-- a word or a `}` stands at the front
+abbrev pub begins_anew : List ℕ → Bool
+begins_anew bytes = bytes_eq (first_token bytes) (codes "}") || not (length (first_word bytes) == 0)
+
+-- in a text without comments a `;` may be missing between where one token ends and where the next stands: no `;` and no
+-- brace is the one, and a word or a `}` is the other
+abbrev pub may_lack_semicolon : (plain : List ℕ) → (end : ℕ) → (place : ℕ) → Bool
+may_lack_semicolon plain end place = is_unended (take end plain) && begins_anew (drop place plain)
+
+-- the words tell that a `;` is missing before a word or a `}`, where one may be
+abbrev pub TellsMissing : (text : List ℕ) → (place : ℕ) → (words : List ℕ) → Type 0
+TellsMissing text place words =
+    (words ≡ missing_semicolon text place)
+    × (may_lack_semicolon (without_comments text) (end_before text place) place ≡ true)
+
 -- the words point at a word or a sign, or tell that a `;` is missing before it
 abbrev pub PointsAtToken : (text : List ℕ) → (place : ℕ) → (words : List ℕ) → Type 0
-PointsAtToken text place words = PointsAt text place words ⊎ (words ≡ missing_semicolon text place)
+PointsAtToken text place words = PointsAt text place words ⊎ TellsMissing text place words
 
 -- a sentence begins with what there is to say first, where there is something
 abbrev pub BeginsBy : (first : Option (List ℕ)) → (sentence : List ℕ) → Type 0
@@ -73,10 +101,6 @@ place_of (c.AfterAbort place) = Some place
 place_of (c.TooMany place) = Some place
 place_of (c.TooManyPaths place) = Some place
 place_of c.Memory = None
-
--- neither a `;` nor a `{`
-abbrev pub goes_on : (byte : ℕ) → Bool
-goes_on byte = not (byte == 59) && not (byte == 123)
 
 -- at the mark stands a word of the statement or the test that begins at a place: between them no statement ends, and no
 -- block begins

@@ -1,11 +1,12 @@
 //! The faults of a text in words.
-ghost use Rattle.std.specs.Prelude.{IfOk, option_map, string_bytes};
-ghost use Rattle.fault_words.specs.Pointing.{BeginsBy, PointsAtFault, PointsAtToken, TellsOpenBlock};
+ghost use Rattle.std.specs.Prelude.{◌≡◌, true, IfOk, option_map, string_bytes};
+ghost use Rattle.fault_words.specs.Pointing.{begins_anew, is_end, is_unended, may_lack_semicolon, BeginsBy, PointsAtFault, PointsAtToken, TellsOpenBlock};
 
 use crate::expected::{possible, told};
 use crate::open_blocks::open_words;
 use crate::ordinals::ordinal;
 use crate::pointing::point_at;
+use crate::scope::goes_on;
 use crate::slips::{Around, Slip, slip_of, slip_words, tokens_around};
 use prog_text::{
     MAX_BRACKETS, MAX_NAME_BYTES, MAX_OPERATORS, MAX_TEXT_BYTES, TextFault, beginning_of,
@@ -133,11 +134,44 @@ fn unexpected_words(
     }
 }
 
-// Whether a `;` is missing: one could stand here, and the token opens another line or statement.
-fn lacks_semicolon(could: &[&str], token: &str, is_first: bool) -> bool {
-    let begins_word = !first_word(token.as_bytes()).is_empty();
-    could.contains(&";")
-        && (token == "}" || beginning_of(token.as_bytes()).is_some() || (is_first && begins_word))
+// Whether a byte ends a statement, or a block begins or ends with it.
+fn is_end(byte: u8) -> bool
+    ensures { result ≡ is_end byte }
+{
+    !goes_on(byte) || byte == b'}'
+}
+
+fn is_unended(bytes: &[u8]) -> bool
+    ensures { result ≡ is_unended bytes.now }
+{
+    match bytes {
+        [] => true,
+        [.., last] => !is_end(*last),
+    }
+}
+
+fn begins_anew(bytes: &[u8]) -> bool
+    ensures { result ≡ begins_anew bytes.now }
+{
+    first_token(bytes) == b"}".as_slice() || !first_word(bytes).is_empty()
+}
+
+fn may_lack_semicolon(plain: &[u8], end: usize, place: usize) -> bool
+    ensures { result ≡ may_lack_semicolon plain.now end place }
+{
+    is_unended(before(plain, end)) && begins_anew(behind(plain, place))
+}
+
+// Whether a `;` is missing before a place of a text without comments, where the token before ends:
+// one could stand there, and the token opens another line or statement.
+fn lacks_semicolon(plain: &[u8], end: usize, place: usize, could: &[&str], is_first: bool) -> bool
+    ensures { result ≡ true → may_lack_semicolon plain.now end place ≡ true }
+{
+    if !may_lack_semicolon(plain, end, place) {
+        return false;
+    }
+    let token = first_token(behind(plain, place));
+    could.contains(&";") && (is_first || token == b"}".as_slice() || beginning_of(token).is_some())
 }
 
 fn unexpected(alloc: Global, text: &[u8], place: usize) -> Result<String, AllocError>
@@ -148,7 +182,7 @@ fn unexpected(alloc: Global, text: &[u8], place: usize) -> Result<String, AllocE
     let around = tokens_around(&plain, end, place);
     let could = possible(alloc, before(text, place))?;
     let is_first = line_number(text, end) != line_number(text, place);
-    if lacks_semicolon(&could, around.token, is_first) {
+    if lacks_semicolon(&plain, end, place, &could, is_first) {
         return point_out(alloc, text, end, "a `;` is missing here");
     }
     let sentence = unexpected_words(alloc, text, place, &could, around)?;
