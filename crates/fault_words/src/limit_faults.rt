@@ -4,7 +4,7 @@ use crate::naming::program_params;
 use crate::ordinals::ordinal;
 use crate::scope::has_each;
 use prog_check::{MAX_ACCESSES, MAX_PARAMETERS, MAX_PROGRAMS, MAX_STATEMENTS, MAX_TABLES, Place};
-use prog_text::parse;
+use prog_text::{TextFault, parse};
 use std::alloc::{AllocError, Global};
 use text_places::SetText;
 
@@ -37,6 +37,7 @@ fn too_much_in_program(
     }
     let count = match parse(alloc, text.bytes()) {
         Ok(draft) => program_params(&draft, program).len(),
+        Err(TextFault::Memory) => return Err(AllocError),
         Err(_) => 0,
     };
     if count > MAX_PARAMETERS {
