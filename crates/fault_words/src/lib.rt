@@ -19,7 +19,9 @@ mod slips;
 mod text_faults;
 
 pub use laws::beginnings_are_those_of_the_grammar;
-pub use naming::{cell_text, program_name, program_params, region_text, table_names};
+pub use naming::{
+    cell_text, program_name, program_names, program_params, region_text, table_names,
+};
 pub use nearest::{known_names, nearest_name};
 pub use ordinals::ordinal;
 pub use pointing::point_at;

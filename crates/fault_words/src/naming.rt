@@ -1,6 +1,6 @@
 //! What the tables, programs and cells of a set are called.
 ghost use Rattle.std.specs.Prelude.{◌≡◌, IfOk, map, string_bytes};
-ghost use Rattle.prog_check.specs.Faults.{table_names};
+ghost use Rattle.prog_check.specs.Faults.{program_names, table_names};
 ghost use Rattle.prog_tree.specs.Tree.{draft_tree};
 ghost use Rattle.fault_words.specs.Naming.{cell_text, cell_with, end_text, only_range, program_name, program_params, range_text, region_text, region_with, second_range};
 
@@ -16,6 +16,18 @@ pub fn table_names(alloc: Global, draft: &Draft) -> Result<Vec<&str>, AllocError
     let mut names = Vec::new(alloc);
     for table in &draft.tables {
         names.push(table.name.as_str())?;
+    }
+    Ok(names)
+}
+
+/// The names of the programs.
+pub fn program_names(alloc: Global, draft: &Draft) -> Result<Vec<&str>, AllocError>
+    ensures { IfOk result (λ names. map (λ name. name.now) names.items
+        ≡ program_names (draft_tree draft.now)) }
+{
+    let mut names = Vec::new(alloc);
+    for program in &draft.programs {
+        names.push(program.name.as_str())?;
     }
     Ok(names)
 }

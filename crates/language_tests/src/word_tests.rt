@@ -5,7 +5,7 @@ use crate::told::is_told;
 use example_sets::{LEDGER, set_of};
 use fault_words::{
     beginnings_are_those_of_the_grammar, cell_text, known_names, nearest_name, ordinal, point_at,
-    program_name, program_params, region_text, table_names,
+    program_name, program_names, program_params, region_text, table_names,
 };
 use prog_check::ProgramSet;
 use prog_tree::{Cell, Region};
@@ -103,10 +103,12 @@ fn check_region(rt: &impl Abort, alloc: Global, set: &ProgramSet) -> Result<(), 
     Ok(())
 }
 
-/// How the tables are called, and the second program with its parameters.
+/// How the tables and the programs are called, and the parameters of the second.
 fn check_names(rt: &impl Abort, alloc: Global, set: &ProgramSet) -> Result<(), AllocError> {
     let names = table_names(alloc, set.draft())?;
     assert!(rt; names.as_slice() == ["closed", "entry"].as_slice());
+    let names = program_names(alloc, set.draft())?;
+    assert!(rt; names.as_slice() == ["Post", "Close", "Total"].as_slice());
     assert!(rt; program_name(set, 1) == "Close");
     assert!(rt; program_params(set.draft(), 1).len() == 1);
     Ok(())

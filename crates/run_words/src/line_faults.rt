@@ -5,9 +5,8 @@ ghost use Rattle.run_words.specs.PartPointing.{line_of_fault, HasNoLineOf, Point
 use crate::forms::{PartKind, command_of, first_words, form_of, may_begin, name_in, no_number};
 use crate::in_input::{Part, point_in_part};
 use crate::line_reading::{line_bytes, shown, words_of};
-use fault_words::{known_names, table_names};
+use fault_words::{known_names, program_names, table_names};
 use prog_check::ProgramSet;
-use prog_tree::Draft;
 use si_engine::{LineFault, MAX_EVENTS};
 use std::alloc::{AllocError, Global};
 use text_places::line_front;
@@ -52,14 +51,6 @@ fn bad_line(
         }
         None => format!(in alloc; "this is not of the form {form}"),
     }
-}
-
-fn program_names(alloc: Global, draft: &Draft) -> Result<Vec<&str>, AllocError> {
-    let mut names = Vec::new(alloc);
-    for program in &draft.programs {
-        names.push(program.name.as_str())?;
-    }
-    Ok(names)
 }
 
 fn unknown_name(alloc: Global, set: &ProgramSet, words: &[&str]) -> Result<String, AllocError> {
