@@ -1,4 +1,6 @@
 //! What could stand at a place of a text: each word and sign is tried there.
+ghost use Rattle.std.specs.Prelude.{◌≡◌, map, true};
+ghost use Rattle.fault_words.specs.Reserved.{have_each_sign};
 
 use crate::limits::MAX_TRIED;
 use prog_text::{TextFault, parse, reserved_words};
@@ -16,6 +18,13 @@ const SIGNS: [&str; 21] = [
     NAME, NUMBER, "(", ")", "[", "]", "{", "}", ",", ";", "=", "+", "-", "*", "..", "<", "<=", ">",
     ">=", "==", "!=",
 ];
+
+// What is tried beside the reserved words.
+fn tried_signs() -> &'static [&'static str]
+    ensures { have_each_sign (map (λ word. word.now) result.now) ≡ true }
+{
+    &SIGNS
+}
 
 // Whether a word goes on a text, which is left as it was.
 fn goes_on(alloc: Global, text: &mut Vec<u8>, word: &str) -> Result<bool, AllocError> {
@@ -44,7 +53,7 @@ fn shown(alloc: Global, word: &str) -> Result<String, AllocError> {
 // The signs with which a text could go on.
 fn possible_signs(alloc: Global, text: &mut Vec<u8>) -> Result<Vec<&'static str>, AllocError> {
     let mut list = Vec::new(alloc);
-    for sign in SIGNS.iter() {
+    for sign in tried_signs() {
         if goes_on(alloc, text, sign)? {
             list.push(*sign)?;
         }
