@@ -6,4 +6,3 @@ mod Ranges
 mod Spacing
 mod TellsMore
 mod Stopped
-mod Unsaid

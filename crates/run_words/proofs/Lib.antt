@@ -1,4 +1,3 @@
 pub mod Lines
 mod LostLines
-mod Unsaid
 mod WholeInput

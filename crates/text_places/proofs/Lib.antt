@@ -1,3 +1,4 @@
 mod Begun
 mod Counting
 mod Finding
+pub mod Unsaid

@@ -1,6 +1,6 @@
 use Rattle.std.proofs.Common.{inl, inr}
 use Rattle.analysis_words.specs.Nodes.{seen, HasNoAccess}
-use Rattle.analysis_words.proofs.Unsaid.{unsaid}
+use Rattle.text_places.proofs.Unsaid.{unsaid}
 use Rattle.analysis_words.proofs.edges.question_words.Goals as goal
 
 pub returns-in_default-clause-none : goal.returns-in_default-clause-none

@@ -1,7 +1,7 @@
 use Rattle.std.proofs.Common.{rules, inl, string_bytes}
 use Rattle.analysis_words.specs.Nodes.{seen}
 use Rattle.analysis_words.specs.Refusing.{LacksQuestion}
-use Rattle.analysis_words.proofs.Unsaid.{unsaid}
+use Rattle.text_places.proofs.Unsaid.{unsaid}
 use Rattle.analysis_words.proofs.refusal.one_words.Goals as goal
 
 pub returns-clause-said : goal.returns-clause-said

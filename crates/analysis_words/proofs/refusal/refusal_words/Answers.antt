@@ -3,7 +3,7 @@ use Rattle.prog_tree.specs.Tree.{draft_tree}
 use Rattle.analysis_words.specs.Left.{left_text}
 use Rattle.analysis_words.specs.Nodes.{seen, Sight}
 use Rattle.analysis_words.specs.Refusing.{LacksDanger, ShowsDanger}
-use Rattle.analysis_words.proofs.Unsaid.{unsaid}
+use Rattle.text_places.proofs.Unsaid.{unsaid}
 use Rattle.analysis_words.proofs.refusal.refusal_words.Goals as goal
 
 pub returns-clause-said : goal.returns-clause-said

@@ -4,7 +4,7 @@ use Rattle.run_words.specs.EachLine.{TellsEach}
 use Rattle.run_words.specs.PartPointing.{PointsAtLineIn}
 use Rattle.run_words.specs.ToldLines.{TellsLine, told_lines}
 use Rattle.run_words.specs.declared.refusals.Refused.{Refused}
-use Rattle.run_words.proofs.Unsaid.{unsaid}
+use Rattle.text_places.proofs.Unsaid.{unsaid}
 use Rattle.run_words.proofs.refused_lines.told_words.Goals as goal
 
 pub returns-clause-said : goal.returns-clause-said
