@@ -37,7 +37,7 @@ pub fn without_comments(alloc: Global, text: &[u8]) -> Result<Vec<u8>, AllocErro
     let mut is_open = false;
     for byte in text {
         is_open = is_in_comment(is_open, *byte);
-        blanked.push(if is_open { b' ' } else { *byte })?;
+        blanked.push_reserved(if is_open { b' ' } else { *byte });
     }
     Ok(blanked)
 }
