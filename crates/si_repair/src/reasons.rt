@@ -32,8 +32,8 @@ fn copies_of(alloc: Global, chains: &[conflict_pairs::Chain]) -> Result<Sequence
     Ok(Sequence::from_vec(copies))
 }
 
-/// The reason that a verdict gives. An exposed question has no entry, so what stands for its reason
-/// is never told.
+/// The reason that a verdict gives. An exposed question has no entry, so one reason that is never
+/// told stands for those of all exposed verdicts.
 fn reason_of(alloc: Global, verdict: &Verdict) -> Result<Reason, AllocError>
     requires { VerdictFits verdict.now }
     ensures { IfOk result (λ reason. reason ≡ reason_of verdict.now) }
@@ -101,6 +101,14 @@ fn is_given(reason: &Reason, verdict: &Verdict) -> bool
                 && *theirs as usize == *t
                 && are_same_chains(chains.as_slice(), c.as_slice())
         }
+        (
+            Reason::Cover {
+                mine,
+                theirs,
+                chains,
+            },
+            Verdict::Exposed(_),
+        ) => *mine == 0 && *theirs == 0 && chains.is_empty(),
         _ => false,
     }
 }

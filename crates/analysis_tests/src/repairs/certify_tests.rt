@@ -2,7 +2,7 @@
 
 use crate::dangers::shown;
 use crate::examples::{KEPT_PAYS, KEPT_REPORTS, SKEW, TRANSFERS};
-use crate::repairs::sets::{APART, COLUMNS, KEPT_REPORT};
+use crate::repairs::sets::{APART, APART_TWICE, COLUMNS, KEPT_REPORT};
 use crate::told::is_told;
 use example_sets::{KEPT_PAY, LEDGER, PAY, REPORT, SMALL_BANK, TRANSFER, set_of};
 use robust_cert::to_json;
@@ -110,6 +110,45 @@ fn covers_are_told_with_their_chains(rt: HostRuntime) -> Result<(), Fail> {
     for (text, certificate) in COVERED {
         check(&rt, rt.alloc(), text, certificate)?;
         check_by_threads(&rt, rt.alloc(), text, certificate)?;
+    }
+    Ok(())
+}
+
+fn reason_count(finding: &Finding) -> usize {
+    match finding {
+        Finding::Robust(certificate) => {
+            let (_, reasons) = certificate.entries.parts();
+            reasons.len()
+        }
+        Finding::Refused(_) => 0,
+    }
+}
+
+/// How many reasons the certificate of the set of a text keeps.
+fn reasons_kept(alloc: Global, text: &str) -> Result<usize, Fail> {
+    let set = set_of(alloc, text)?;
+    let found = certify(alloc, &set);
+    drop(set);
+    let finding = found?;
+    let count = reason_count(&finding);
+    drop(finding);
+    Ok(count)
+}
+
+/// Sets, and how many reasons their certificates keep: each that differs, and one that stands for
+/// those of exposed questions.
+const REASONS: [(&str, usize); 3] = [
+    // Four covers that differ; the four questions of two writes are exposed.
+    (TRANSFER, 5),
+    (APART, 2),
+    (APART_TWICE, 2),
+];
+
+#[test]
+fn questions_share_their_reasons(rt: HostRuntime) -> Result<(), Fail> {
+    for (text, wanted) in REASONS {
+        let kept = reasons_kept(rt.alloc(), text)?;
+        assert!(rt; kept == wanted, "{kept} reasons of {text}");
     }
     Ok(())
 }

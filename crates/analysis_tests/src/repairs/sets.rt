@@ -18,6 +18,18 @@ program Report(d) {
 /// A read and a write that never meet.
 pub const APART: &str = "table t 1; program P() { let x = get t[1] else 0; put t[2] = x; }";
 
+/// The same in two tables, whose questions are not alike and have the same reasons.
+pub const APART_TWICE: &str = "\
+table t 1;
+table u 1;
+program P() {
+  let x = get t[1] else 0;
+  put t[2] = x;
+  let y = get u[1] else 0;
+  put u[2] = y;
+}
+";
+
 /// A read that stands in a body, and a write that it is exposed to.
 pub const MOVE_IN_A_BODY: &str = "\
 table s 1;
