@@ -21,7 +21,7 @@ use Rattle.repair_laws.specs.Striking.{IsOfProgram}
 use Rattle.repair_laws.specs.Keys.{ExposedOf}
 use Rattle.si_repair.specs.Exposing.{IsPart, AreExposed}
 use Rattle.conflict_pairs.specs.Alike.{HasAccess}
-use Rattle.si_repair.specs.Gathering.{MayMiss, IsExposedTo, IsExposedOf, AreExposedAmong}
+use Rattle.si_repair.specs.Gathering.{ArePlacesOf, ArePlacesOfPair, MayMiss, IsExposedTo, IsExposedOf, AreExposedAmong}
 use Rattle.si_repair.proofs.Members.{just_one}
 use Rattle.si_repair.proofs.Parts.{part-none, part-whole, part-append, part-contains, part-trans, part-among}
 
@@ -62,12 +62,6 @@ access_is nodes x a path d is h =
     (path, slice_get-get_or nodes x path (node_there nodes x a h) ∙ ap Some (sym is), slice_get-get_or path.accesses a d (slice_get_within path.accesses a h.0 there))
 
 -- ---- the accesses of a program
-
--- the accesses on a program's paths, at their places and in order
-pub record ArePlacesOf (nodes : List Path) (program : ℕ) (places : List Placed) : Type 0 where
-  pub part : IsPart (all_from 0 nodes) places
-  pub only : (p : Placed) → Contains places p → IsAt nodes p × IsOfProgram nodes program p.node
-  pub each : (p : Placed) → IsAt nodes p → IsOfProgram nodes program p.node → Contains places p
 
 own_or_none : (b : Bool) (n : ℕ) (xs : List Access) → IsPart (placed_from n 0 xs) (placed_from n 0 (if b then xs else []))
 own_or_none true n xs = part-whole (placed_from n 0 xs)
@@ -144,11 +138,24 @@ placed_of nodes program = record { part = own_part program 0 nodes; only = only;
         (subst (λ (m : ℕ). IsMember (placed m p.number p.access) (program_from program 0 nodes)) z (in_own program 0 nodes p.node at.0 p.number p.access at.1 own at.2))
 
 -- places that are a program's are those of its accesses, and stand in the paths
-pub own_places : (nodes : List Path) (program : ℕ) (places : List Placed) → places ≡ program_from program 0 nodes → ArePlacesOf nodes program places
+own_places : (nodes : List Path) (program : ℕ) (places : List Placed) → places ≡ program_from program 0 nodes → ArePlacesOf nodes program places
 own_places nodes program places is = subst (ArePlacesOf nodes program) (sym is) (placed_of nodes program)
 
-pub places_stand : (nodes : List Path) (program : ℕ) (places : List Placed) → places ≡ program_from program 0 nodes → All (λ (p : Placed). IsAt nodes p) places
+places_stand : (nodes : List Path) (program : ℕ) (places : List Placed) → places ≡ program_from program 0 nodes → All (λ (p : Placed). IsAt nodes p) places
 places_stand nodes program places is k d lt = ((own_places nodes program places is).only (get_or places k d) (Contains-get_or places k d lt)).0
+
+pub places_of_pair : (nodes : List Path) (pair : Pair) (reads changes : List Placed) → reads ≡ program_from pair.from 0 nodes → changes ≡ program_from pair.to 0 nodes → ArePlacesOfPair nodes pair reads changes
+places_of_pair nodes pair reads changes is_reads is_changes = record {
+  of_first = own_places nodes pair.from reads is_reads;
+  of_second = own_places nodes pair.to changes is_changes;
+  reads_stand = places_stand nodes pair.from reads is_reads;
+  changes_stand = places_stand nodes pair.to changes is_changes;
+}
+
+-- lists that equal those of a pair are those of it
+pub same_places : (nodes : List Path) (pair : Pair) (xs ys reads changes : List Placed) → xs ≡ reads → ys ≡ changes → ArePlacesOfPair nodes pair reads changes → ArePlacesOfPair nodes pair xs ys
+same_places nodes pair xs ys reads changes is_reads is_changes h =
+    subst (λ (l : List Placed). ArePlacesOfPair nodes pair l ys) (sym is_reads) (subst (λ (l : List Placed). ArePlacesOfPair nodes pair reads l) (sym is_changes) h)
 
 -- ---- what is told of a question
 

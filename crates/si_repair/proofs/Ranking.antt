@@ -22,8 +22,8 @@ use Rattle.repair_laws.specs.declared.plan.Pair.{Pair}
 use Rattle.repair_laws.specs.Keys.{ExposedOf, IsForcedEqual, IsLeastForced, IsKeyOf}
 use Rattle.si_repair.specs.Exposing.{AreExposed}
 use Rattle.si_repair.specs.Forcing.{AreMissed, IsMissed, AreFactsOf, PutEqual, AreLeft, ForceEqual, IsEarlier, ArePairsRising, params_with, all_pairs, AreForced, AreForcedAmong}
-use Rattle.si_repair.specs.Gathering.{AreExposedAmong}
-use Rattle.si_repair.proofs.Gathering.{ArePlacesOf, nothing, only_one, among_first, still_first, last_first, first_moved, of_pair-exposed, AreExposed-from_places}
+use Rattle.si_repair.specs.Gathering.{ArePlacesOf, AreExposedAmong}
+use Rattle.si_repair.proofs.Gathering.{nothing, only_one, among_first, still_first, last_first, first_moved, of_pair-exposed, AreExposed-from_places}
 
 -- ---- pairs in order
 

@@ -1,11 +1,14 @@
 -- Which accesses are exposed to others: words of private clauses.
-use Rattle.std.specs.Prelude.{◌≡◌, ℕ, List, [], ◌∷◌, take, Contains, Option, Some, None}
+use Rattle.std.specs.Prelude.{◌≡◌, ℕ, List, [], ◌∷◌, take, All, Contains, Option, Some, None}
 use Rattle.prog_check.specs.declared.path.Path.{Path}
 use Rattle.prog_paths.specs.StaticGraph.{AsksReadWrite, IsExposed}
 use Rattle.prog_paths.specs.declared.accesses.places.Placed.{Placed}
 use Rattle.prog_paths.specs.declared.accesses.places.Question.{Question as Asked}
-use Rattle.prog_paths.specs.Asked.{numbers_of, question_between, asked_among}
+use Rattle.prog_paths.specs.Asked.{all_from, numbers_of, question_between, asked_among}
+use Rattle.prog_paths.specs.Places.{IsAt}
 use Rattle.conflict_pairs.specs.Alike.{HasAccess}
+use Rattle.repair_laws.specs.declared.plan.Pair.{Pair}
+use Rattle.repair_laws.specs.Striking.{IsOfProgram}
 use Rattle.si_repair.specs.Exposing.{IsPart}
 
 -- the first access of a question is there
@@ -15,6 +18,19 @@ HasRead nodes q = HasAccess nodes q.x q.a
 -- both accesses of a question are there
 abbrev pub HasBoth : List Path → Asked → Type 0
 HasBoth nodes q = HasAccess nodes q.x q.a × HasAccess nodes q.y q.b
+
+-- the accesses on a program's paths, at their places and in order
+pub record ArePlacesOf (nodes : List Path) (program : ℕ) (places : List Placed) : Type 0 where
+  pub part : IsPart (all_from 0 nodes) places
+  pub only : (p : Placed) → Contains places p → IsAt nodes p × IsOfProgram nodes program p.node
+  pub each : (p : Placed) → IsAt nodes p → IsOfProgram nodes program p.node → Contains places p
+
+-- those of the two programs of a pair
+pub record ArePlacesOfPair (nodes : List Path) (pair : Pair) (reads changes : List Placed) : Type 0 where
+  pub of_first : ArePlacesOf nodes pair.from reads
+  pub of_second : ArePlacesOf nodes pair.to changes
+  pub reads_stand : All (λ p. IsAt nodes p) reads
+  pub changes_stand : All (λ p. IsAt nodes p) changes
 
 -- both use one table, and the first may miss what the second changes
 pub record MayMiss (first second : Placed) : Type 0 where

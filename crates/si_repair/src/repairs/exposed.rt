@@ -6,7 +6,7 @@ ghost use Rattle.prog_paths.specs.StaticGraph.{IsAccessOf};
 ghost use Rattle.conflict_pairs.specs.Verdicts.{TellsExposed};
 ghost use Rattle.si_repair.specs.Exposing.{AreExposed, IsFirstExposed};
 ghost use Rattle.conflict_pairs.specs.Alike.{HasAccess};
-ghost use Rattle.si_repair.specs.Gathering.{MayMiss, IsExposedTo, AreExposedAmong, IsFirstAmong};
+ghost use Rattle.si_repair.specs.Gathering.{ArePlacesOfPair, MayMiss, IsExposedTo, AreExposedAmong, IsFirstAmong};
 
 use conflict_pairs::is_exposed_question;
 use prog_check::{Access, Path};
@@ -21,6 +21,23 @@ pub fn access_at(paths: &[Path], node: usize, number: usize) -> Access
 {
     let accesses = paths[node].accesses.as_slice();
     accesses[number]
+}
+
+/// The accesses on the paths of a pair's two programs. Those of the first may miss what those of
+/// the second change.
+#[derive(Drop)]
+pub struct PairPlaces {
+    pub reads: Vec<Placed>,
+    pub changes: Vec<Placed>,
+}
+
+pub fn places_of_pair(alloc: Global, paths: &[Path], pair: Pair) -> Result<PairPlaces, AllocError>
+    ensures { IfOk result (λ places.
+        ArePlacesOfPair paths.now pair places.reads.items places.changes.items) }
+{
+    let reads = program_places(alloc, paths, pair.from)?;
+    let changes = program_places(alloc, paths, pair.to)?;
+    Ok(PairPlaces { reads, changes })
 }
 
 /// Whether both use one table, and the first may miss what the second changes.
@@ -122,9 +139,8 @@ pub fn exposed_questions(
     requires { All ChangesSingleCells paths.now }
     ensures { IfOk result (λ questions. AreExposed paths.now pair questions.items) }
 {
-    let firsts = program_places(alloc, paths, pair.from)?;
-    let seconds = program_places(alloc, paths, pair.to)?;
-    exposed_among(alloc, paths, &firsts, &seconds)
+    let PairPlaces { reads, changes } = places_of_pair(alloc, paths, pair)?;
+    exposed_among(alloc, paths, &reads, &changes)
 }
 
 /// The first question of an access that is exposed to another, or none.
@@ -159,7 +175,6 @@ pub fn first_exposed(
     requires { All ChangesSingleCells paths.now }
     ensures { IfOk result (λ found. IsFirstExposed paths.now pair found) }
 {
-    let reads = program_places(alloc, paths, pair.from)?;
-    let changes = program_places(alloc, paths, pair.to)?;
+    let PairPlaces { reads, changes } = places_of_pair(alloc, paths, pair)?;
     first_among(alloc, paths, &reads, &changes)
 }

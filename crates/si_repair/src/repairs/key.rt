@@ -6,10 +6,10 @@ ghost use Rattle.prog_paths.specs.declared.accesses.places.Question.{Question as
 ghost use Rattle.repair_laws.specs.Keys.{IsKeyOf};
 ghost use Rattle.si_repair.specs.Forcing.{IsMissed, AreFactsOf, PutEqual, AreLeft, AreForced, AreForcedAmong, params_with, all_pairs};
 
-use crate::repairs::exposed::{access_at, exposed_to};
+use crate::repairs::exposed::{PairPlaces, access_at, exposed_to, places_of_pair};
 use order_facts::{Closed, Node};
 use prog_check::Path;
-use prog_paths::{Placed, Question, closed_facts, program_places};
+use prog_paths::{Placed, Question, closed_facts};
 use repair_laws::Pair;
 use std::alloc::{AllocError, Global};
 
@@ -136,8 +136,7 @@ pub fn key_of(
     requires { All ChangesSingleCells paths.now }
     ensures { IfOk result (λ key. IsKeyOf paths.now pair firsts seconds key) }
 {
-    let reads = program_places(alloc, paths, pair.from)?;
-    let changes = program_places(alloc, paths, pair.to)?;
+    let PairPlaces { reads, changes } = places_of_pair(alloc, paths, pair)?;
     let forced = forced_pairs(alloc, paths, &reads, &changes, firsts, seconds)?;
     Ok(forced.first().copied())
 }
