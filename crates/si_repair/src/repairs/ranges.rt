@@ -74,7 +74,7 @@ pub(crate) fn ranges_of(
 pub(crate) fn is_range(marks: &[bool], number: usize) -> bool
     ensures { result ≡ slice_index_or marks.now number false }
 {
-    number < marks.len() && marks[number]
+    marks.get(number).copied().unwrap_or(false)
 }
 
 /// Whether the statement of a number of a program is a range.
