@@ -1,6 +1,6 @@
 -- The numbers of what is told are small.
-use Rattle.std.proofs.Common.{◌≡◌, ℕ, not, get_or, ◌<◌, ◌≤◌, ◌+◌, List, [], ◌∷◌, ◌++◌, drop, length, ◌⊎◌, inl, inr, refl, sym, subst, ap, ◌∙◌, arith, append_assoc}
-use Rattle.std.specs.Prelude.{All, Some, slice_get, slice_index_or}
+use Rattle.std.proofs.Common.{◌≡◌, ℕ, Bool, true, false, not, get_or, ◌<◌, ◌≤◌, ◌+◌, List, [], ◌∷◌, ◌++◌, drop, length, ◌⊎◌, inl, inr, refl, sym, subst, ap, ◌∙◌, arith, append_assoc}
+use Rattle.std.specs.Prelude.{All, Some, slice_get, slice_index_or, if◌then◌else◌}
 use Rattle.std.proofs.lemmas.List.{drop_more, drop_all, append-nil, get_or_append_left, get_or_push, map-append}
 use Rattle.std.proofs.lemmas.Bool.{cases_lt}
 use Rattle.std.proofs.lemmas.List.Sums.{length-filter, count_by-le-length}
@@ -19,9 +19,10 @@ use Rattle.conflict_pairs.specs.declared.verdicts.Verdict.{Verdict}
 use Rattle.conflict_pairs.specs.declared.verdicts.Verdict.TheVariants.{Apart, Covered, Exposed}
 use Rattle.conflict_pairs.specs.Interning.{IsServed}
 use Rattle.conflict_pairs.specs.Table.{Entry as Judged, Table, IsOnQuestion}
-use Rattle.conflict_pairs.specs.Verdicts.{IsRight}
+use Rattle.conflict_pairs.specs.Verdicts.{IsRight, is_exposed}
 use Rattle.conflict_pairs.proofs.Serving.{served-within}
 use Rattle.dep_graph.specs.Counting.{IsCountOf, none, counted, passed}
+use Rattle.robust_cert.specs.declared.certificate.Question.{Question}
 use Rattle.robust_cert.specs.declared.entries.Reason.{Reason}
 use Rattle.robust_cert.specs.declared.entries.Told.{Told}
 use Rattle.robust_cert.specs.Accepted.{body_size}
@@ -118,6 +119,18 @@ numbered_within : (rs : List Reason) (q : Asked) (v : Verdict) (n : ℕ) → n <
 numbered_within rs q (Apart chain) n lt = All-cons (HasReason rs) (record { question = told_question q; reason = n }) [] lt (All-nil (HasReason rs))
 numbered_within rs q (Covered m t chains) n lt = All-cons (HasReason rs) (record { question = told_question q; reason = n }) [] lt (All-nil (HasReason rs))
 numbered_within rs q (Exposed sample) n lt = All-nil (HasReason rs)
+
+-- an exposed question tells nothing
+pub numbered-none : (q : Asked) (v : Verdict) (n : ℕ) (old : List Told) → is_exposed v ≡ true → old ≡ old ++ told_numbered q v n
+numbered-none q v n old exposed =
+    let one : List Told = record { question = told_question q; reason = n } ∷ [] in
+    sym (append-nil old) ∙ sym (ap (λ (b : Bool). old ++ (if b then [] else one)) exposed)
+
+-- any other one has the number of its reason
+pub numbered-one : (q : Asked) (v : Verdict) (n : ℕ) (old : List Told) (asked : Question) → asked ≡ told_question q → is_exposed v ≡ false → old ++ record { question = asked; reason = n } ∷ [] ≡ old ++ told_numbered q v n
+numbered-one q v n old asked is told =
+    let one : List Told = record { question = told_question q; reason = n } ∷ [] in
+    ap (λ (p : Question). old ++ record { question = p; reason = n } ∷ []) is ∙ sym (ap (λ (b : Bool). old ++ (if b then [] else one)) told)
 
 pub numbered_more : (old new : List Told) (rs : List Reason) (q : Asked) (v : Verdict) (n : ℕ) → IsServed Gives rs v n → new ≡ old ++ told_numbered q v n → entries_told rs new ≡ entries_told rs old ++ told_by q v
 numbered_more old new rs q v n given added =

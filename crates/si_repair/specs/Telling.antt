@@ -1,5 +1,5 @@
 -- What a certificate tells of the entries of a table, and why a set is not analysed.
-use Rattle.std.specs.Prelude.{◌≡◌, ℕ, List, [], ◌∷◌, length, All}
+use Rattle.std.specs.Prelude.{◌≡◌, ℕ, List, [], ◌∷◌, length, All, if◌then◌else◌}
 use Rattle.std.specs.List.{flat_map}
 use Rattle.order_facts.specs.declared.steps.Node.{Node}
 use Rattle.order_facts.specs.Chain.{IsTight}
@@ -12,6 +12,7 @@ use Rattle.conflict_pairs.specs.declared.fault.PairFault.{PairFault}
 use Rattle.conflict_pairs.specs.declared.fault.PairFault as pairs
 use Rattle.conflict_pairs.specs.Interning.{AreInterned}
 use Rattle.conflict_pairs.specs.Table.{Entry as Judged, Table, StandsFor}
+use Rattle.conflict_pairs.specs.Verdicts.{is_exposed}
 use Rattle.robust_cert.specs.declared.certificate.Question.{Question}
 use Rattle.robust_cert.specs.declared.entries.Reason.{Reason}
 use Rattle.robust_cert.specs.declared.entries.Reason as reason
@@ -34,23 +35,21 @@ fault_of pairs.TheVariants.Memory = faults.TheVariants.Memory
 abbrev pub told_question : Asked → Question
 told_question q = record { x = q.x; a = q.a; y = q.y; b = q.b }
 
+-- the reason that a verdict gives; what stands for that of an exposed question is never told
+abbrev pub reason_of : Verdict → Reason
+reason_of (Apart chain) = reason.TheVariants.Apart chain
+reason_of (Covered m t chains) = reason.TheVariants.Cover m t chains
+reason_of (Exposed sample) = reason.TheVariants.Cover 0 0 []
+
 -- what is told of a question with its verdict: nothing where it is exposed
 abbrev pub told_by : Asked → Verdict → List Entry
-told_by q (Apart chain) = entry_with (told_question q) (reason.TheVariants.Apart chain) ∷ []
-told_by q (Covered m t chains) = entry_with (told_question q) (reason.TheVariants.Cover m t chains) ∷ []
-told_by q (Exposed sample) = []
+told_by q v = if is_exposed v then [] else entry_with (told_question q) (reason_of v) ∷ []
 
 -- what is told of the entries of a table, in order
 abbrev pub told_of : List Judged → List Entry
 told_of = flat_map (λ e. told_by e.question e.verdict)
 
 -- ---- entries that share their reasons
-
--- the reason that a verdict gives; what stands for that of an exposed question is never told
-abbrev pub reason_of : Verdict → Reason
-reason_of (Apart chain) = reason.TheVariants.Apart chain
-reason_of (Covered m t chains) = reason.TheVariants.Cover m t chains
-reason_of (Exposed sample) = reason.TheVariants.Cover 0 0 []
 
 -- a verdict gives a reason
 abbrev pub Gives : Verdict → Reason → Type 0
@@ -62,9 +61,7 @@ AreGiven = AreInterned (λ reason. Unit {0}) Gives
 
 -- what is told of a question with its verdict, by the number of its reason
 abbrev pub told_numbered : Asked → Verdict → ℕ → List Told
-told_numbered q (Apart chain) n = record { question = told_question q; reason = n } ∷ []
-told_numbered q (Covered m t chains) n = record { question = told_question q; reason = n } ∷ []
-told_numbered q (Exposed sample) n = []
+told_numbered q v n = if is_exposed v then [] else record { question = told_question q; reason = n } ∷ []
 
 -- ---- levels
 

@@ -44,16 +44,14 @@ fn push_told(asked: conflict_pairs::Question, verdict: &Verdict, number: u32, to
     ensures len { vec_len told.new ≤ vec_len told.old + 1 }
     ensures capacity { vec_capacity told.new ≡ vec_capacity told.old }
 {
-    match verdict {
-        Verdict::Exposed(_) => {}
-        _ => {
-            let question = told_question(asked);
-            told.push_reserved(Told {
-                question,
-                reason: number,
-            });
-        }
+    if verdict.is_exposed() {
+        return;
     }
+    let question = told_question(asked);
+    told.push_reserved(Told {
+        question,
+        reason: number,
+    });
 }
 
 /// What is told of the questions of a table that are not exposed, by the numbers of their reasons.
