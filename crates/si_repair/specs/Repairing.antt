@@ -27,6 +27,14 @@ abbrev pub StopsNowhere : (Stops : ℕ → Pair → Reason → Type 0) → List 
 StopsNowhere Stops plan =
     (n : ℕ) (pair : Pair) (reason : Reason) → slice_get plan n ≡ Some pair → Stops n pair reason → ⊥
 
+-- a plan is carried out: the new set is what it makes of the old one, and no pair of it stops it
+pub record IsCarriedOut (Makes : DraftTree → List Pair → DraftTree → Type 0)
+    (Stops : DraftTree → List Pair → ℕ → Pair → Reason → Type 0)
+    (old : DraftTree) (plan : List Pair) (new : DraftTree) : Type 0 where
+  pub made : Makes old plan new
+  pub safe : IsSafeRepair old plan new
+  pub goes : StopsNowhere (Stops old plan) plan
+
 -- the fault names the first pair that stops the plan, and why it does; of want of memory nothing is said
 abbrev pub IsRepairFault : (Stops : ℕ → Pair → Reason → Type 0) → List Pair → RepairFault → Type 0
 IsRepairFault Stops plan (RangeRead pair) = IsFirstStop Stops plan pair why.RangeRead

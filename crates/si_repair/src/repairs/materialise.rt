@@ -7,7 +7,7 @@ ghost use Rattle.repair_laws.specs.Materialised.{params_of, HasKey, AreNewTables
 ghost use Rattle.repair_laws.specs.Refusals.{StopsMaterialising};
 ghost use Rattle.repair_laws.specs.declared.plan.Pair.{Pair as OfPrograms};
 ghost use Rattle.si_repair.specs.Checking.{IsRefused};
-ghost use Rattle.si_repair.specs.Repairing.{IsSafeRepair, StopsNowhere, IsRepairFault};
+ghost use Rattle.si_repair.specs.Repairing.{IsCarriedOut, IsRepairFault};
 ghost use Rattle.si_repair.specs.declared.repairs.fault.RepairFault.TheVariants.{TooMany};
 
 use crate::plans::Plan;
@@ -147,12 +147,8 @@ fn first_stop(
 /// The set with a new table for each pair of the plan, of which both programs of the pair keep one
 /// row in front of all they do.
 pub fn materialise(alloc: Global, set: &ProgramSet, plan: &Plan) -> Result<ProgramSet, RepairFault>
-    ensures made { IfOk result
-        (λ s. IsMaterialised (draft_tree set.now) plan.now.pairs (draft_tree s)) }
-    ensures safe { IfOk result
-        (λ s. IsSafeRepair (draft_tree set.now) plan.now.pairs (draft_tree s)) }
-    ensures goes { OnOk result (StopsNowhere
-        (StopsMaterialising (draft_tree set.now) plan.now.pairs) plan.now.pairs) }
+    ensures repaired { IfOk result (λ s. IsCarriedOut IsMaterialised StopsMaterialising
+        (draft_tree set.now) plan.now.pairs (draft_tree s)) }
     ensures refused { IfErr result (λ fault. IsRepairFault
         (StopsMaterialising (draft_tree set.now) plan.now.pairs)
         plan.now.pairs fault) }

@@ -8,7 +8,7 @@ ghost use Rattle.repair_laws.specs.Refusals.{IsCoverable, StopsPromotion};
 ghost use Rattle.si_repair.specs.Exposing.{AreExposed};
 ghost use Rattle.si_repair.specs.Covering.{pairs_of, AreCovered, AreGathered, HasItsQuestions, HasCoveredReads, IsRefusedWith, IsSoundWith};
 ghost use Rattle.si_repair.specs.Promoting.{is_marked, IsObstacleFault};
-ghost use Rattle.si_repair.specs.Repairing.{IsSafeRepair, StopsNowhere, IsRepairFault};
+ghost use Rattle.si_repair.specs.Repairing.{IsCarriedOut, IsRepairFault};
 ghost use Rattle.si_repair.specs.declared.repairs.fault.RepairFault.TheVariants.{TooMany};
 
 use crate::plans::Plan;
@@ -212,12 +212,8 @@ fn promoted_or_stop(
     requires sound { IsSound (draft_tree set.now) }
     requires gathered { AreGathered (draft_tree set.now) pairs.now
         gathered.covered.items gathered.fault }
-    ensures made { IfOk result
-        (λ s. IsPromoted (draft_tree set.now) pairs.now (draft_tree s)) }
-    ensures safe { IfOk result
-        (λ s. IsSafeRepair (draft_tree set.now) pairs.now (draft_tree s)) }
-    ensures goes { OnOk result (StopsNowhere
-        (StopsPromotion (draft_tree set.now) pairs.now) pairs.now) }
+    ensures repaired { IfOk result (λ s. IsCarriedOut IsPromoted StopsPromotion
+        (draft_tree set.now) pairs.now (draft_tree s)) }
     ensures refused { IfErr result (λ fault. IsRepairFault
         (StopsPromotion (draft_tree set.now) pairs.now) pairs.now fault) }
 {
@@ -234,12 +230,8 @@ fn promoted_or_stop(
 /// The set in which the first program of each pair of a plan keeps, behind each of its reads that
 /// is exposed to the second, the cell that it read. The first pair that can't be is the fault's.
 pub fn promote(alloc: Global, set: &ProgramSet, plan: &Plan) -> Result<ProgramSet, RepairFault>
-    ensures made { IfOk result
-        (λ s. IsPromoted (draft_tree set.now) plan.now.pairs (draft_tree s)) }
-    ensures safe { IfOk result
-        (λ s. IsSafeRepair (draft_tree set.now) plan.now.pairs (draft_tree s)) }
-    ensures goes { OnOk result (StopsNowhere
-        (StopsPromotion (draft_tree set.now) plan.now.pairs) plan.now.pairs) }
+    ensures repaired { IfOk result (λ s. IsCarriedOut IsPromoted StopsPromotion
+        (draft_tree set.now) plan.now.pairs (draft_tree s)) }
     ensures refused { IfErr result (λ fault. IsRepairFault
         (StopsPromotion (draft_tree set.now) plan.now.pairs) plan.now.pairs fault) }
 {

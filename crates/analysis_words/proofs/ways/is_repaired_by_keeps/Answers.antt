@@ -6,7 +6,7 @@ use Rattle.analysis_words.proofs.ways.is_repaired_by_keeps.Goals.{in-Ok, in-Err}
 
 pub returns : goal.returns
 returns c = elim c.match-promote.branch [
-  | in-Ok w ↦ done c.match-promote.result _ w.result-is w.in-Ok.ensures.goes
+  | in-Ok w ↦ done c.match-promote.result _ w.result-is w.in-Ok.ensures.repaired.goes
   | in-Err w ↦ rw w.result-is
       (stopped w.stopped_by.result w.in-Err.fault (StopsPromotion (draft_tree c.args.set.now) c.args.plan.now.pairs) c.args.plan.now.pairs
       w.stopped_by.ensures w.in-Err.ensures.refused)

@@ -21,16 +21,17 @@ whole c =
     all_made draft c.args.plan.now.pairs c.pairs_that_fit.result.now c.in_ok-made.made.items (draft_tree c.in-Some.repaired) first c.in_ok-made.ensures
     (own ∙ ap (λ (l : List NewTable). materialised_by draft l) c.deref-2.ensures.value) sound
 
-pub returns-in-Some-clause-safe : goal.returns-in-Some-clause-safe
-returns-in-Some-clause-safe c =
-    materialised_safe (draft_tree c.args.set.now) c.args.plan.now.pairs (draft_tree c.in-Some.repaired) c.draft.ensures.sound (whole c)
-
-pub returns-in-Some-clause-goes : goal.returns-in-Some-clause-goes
-returns-in-Some-clause-goes c =
+pub returns-in-Some-clause-repaired : goal.returns-in-Some-clause-repaired
+returns-in-Some-clause-repaired c =
     let draft = draft_tree c.args.set.now in
     let plan = c.args.plan.now.pairs in
+    let repaired = draft_tree c.in-Some.repaired in
     let sound = subst (λ o. IfSome o (λ s. IsSound (draft_tree s))) c.in-Some.is c.in_ok-repaired.ensures.sound in
-    stops_nowhere draft plan (small_whole draft plan (draft_tree c.in-Some.repaired) sound (whole c))
+    record {
+      made = whole c;
+      safe = materialised_safe draft plan repaired c.draft.ensures.sound (whole c);
+      goes = stops_nowhere draft plan (small_whole draft plan repaired sound (whole c));
+    }
 
 pub first_stop-requires-clause-some : goal.first_stop-requires-clause-some
 first_stop-requires-clause-some c =

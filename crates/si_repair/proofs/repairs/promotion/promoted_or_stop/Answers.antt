@@ -44,27 +44,17 @@ returns-in-Some-fault-clause-refused c =
     gathered_stopped draft c.args.pairs.now items (draft_tree c.in-Some.promoted) c.in-Some-fault.fault
     (subst (λ (o : Option RepairFault). AreGathered draft c.args.pairs.now items o) c.in-Some-fault.is c.requires.gathered) made sound
 
-pub returns-clause-made : goal.returns-clause-made
-returns-clause-made c =
+pub returns-clause-repaired : goal.returns-clause-repaired
+returns-clause-repaired c =
     let draft = draft_tree c.args.set.now in
+    let pairs = c.args.pairs.now in
     let items = c.args.gathered.covered.items in
-    let whole = subst (λ (o : Option RepairFault). AreGathered draft c.args.pairs.now items o) c.in_default-fault.is c.requires.gathered in
-    let made = subst (λ (l : List Covered). IsPromoted draft (pairs_of l) (draft_tree c.in-Some.promoted)) c.deref.ensures.value (rw c.in-Some.is at c.in_ok-promoted.ensures.made) in
-    wholly_promoted draft c.args.pairs.now items (draft_tree c.in-Some.promoted) whole made
-
-pub returns-clause-safe : goal.returns-clause-safe
-returns-clause-safe c =
-    let draft = draft_tree c.args.set.now in
-    let items = c.args.gathered.covered.items in
-    let whole = subst (λ (o : Option RepairFault). AreGathered draft c.args.pairs.now items o) c.in_default-fault.is c.requires.gathered in
-    let made = subst (λ (l : List Covered). IsPromoted draft (pairs_of l) (draft_tree c.in-Some.promoted)) c.deref.ensures.value (rw c.in-Some.is at c.in_ok-promoted.ensures.made) in
-    promoted_safe draft c.args.pairs.now items (draft_tree c.in-Some.promoted) c.requires.sound whole made
-
-pub returns-clause-goes : goal.returns-clause-goes
-returns-clause-goes c =
-    let draft = draft_tree c.args.set.now in
-    let items = c.args.gathered.covered.items in
-    let whole = subst (λ (o : Option RepairFault). AreGathered draft c.args.pairs.now items o) c.in_default-fault.is c.requires.gathered in
-    let made = subst (λ (l : List Covered). IsPromoted draft (pairs_of l) (draft_tree c.in-Some.promoted)) c.deref.ensures.value (rw c.in-Some.is at c.in_ok-promoted.ensures.made) in
+    let repaired = draft_tree c.in-Some.promoted in
+    let whole = subst (λ (o : Option RepairFault). AreGathered draft pairs items o) c.in_default-fault.is c.requires.gathered in
+    let made = subst (λ (l : List Covered). IsPromoted draft (pairs_of l) repaired) c.deref.ensures.value (rw c.in-Some.is at c.in_ok-promoted.ensures.made) in
     let sound = rw c.in-Some.is at c.in_ok-promoted.ensures.sound in
-    stops_none draft c.args.pairs.now items (draft_tree c.in-Some.promoted) whole made sound
+    record {
+      made = wholly_promoted draft pairs items repaired whole made;
+      safe = promoted_safe draft pairs items repaired c.requires.sound whole made;
+      goes = stops_none draft pairs items repaired whole made sound;
+    }
