@@ -11,8 +11,8 @@ use Rattle.dep_graph.proofs.Rising.{level-le, level-lt}
 use Rattle.robust_cert.specs.declared.certificate.Certificate.{Certificate}
 use Rattle.robust_cert.specs.Accepted.{IsLeft, IsLeftVulnerable, LevelsRise, body_size, IsAccepted}
 use Rattle.si_repair.specs.Findings.{IsCertificateOf}
-use Rattle.si_repair.specs.Telling.{told_of, AreLevels}
-use Rattle.si_repair.proofs.Telling.{rising, told_holds, told_own}
+use Rattle.si_repair.specs.Certificates.{told_of, AreLevels}
+use Rattle.si_repair.proofs.Certificates.{rising, told_holds, told_own}
 use Rattle.si_repair.proofs.Leaving.{tells_each, static-from_left, vulnerable-from_left, edge_inside, static-from_vulnerable}
 
 module _ (t : Table) (paths : List Path) (s : StandsFor t paths) where

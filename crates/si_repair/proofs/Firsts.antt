@@ -13,9 +13,8 @@ use Rattle.prog_paths.proofs.Asked.{if_yes, asked_by-append, asked_among-append}
 use Rattle.prog_paths.proofs.Order.{law_of_order}
 use Rattle.repair_laws.specs.declared.plan.Pair.{Pair}
 use Rattle.repair_laws.specs.Keys.{ExposedOf}
-use Rattle.si_repair.specs.Exposing.{IsPart, IsFirstOfExposed, IsFirstExposed}
-use Rattle.si_repair.specs.Gathering.{ArePlacesOf, IsExposedTo, AreExposedAmong, IsFirstAmong}
-use Rattle.si_repair.proofs.Gathering.{nothing, only_one, asks-from_misses, read_of, change_of, misses_of, first_moved, more-firsts, in_firsts, in_seconds, of_pair-exposed, AreExposed-from_places}
+use Rattle.si_repair.specs.Exposed.{IsPart, IsFirstOfExposed, IsFirstExposed, ArePlacesOf, IsExposedTo, AreExposedAmong, IsFirstAmong}
+use Rattle.si_repair.proofs.Exposed.{nothing, only_one, asks-from_misses, read_of, change_of, misses_of, first_moved, more-firsts, in_firsts, in_seconds, of_pair-exposed, AreExposed-from_places}
 use Rattle.si_repair.proofs.Members.{just_one}
 use Rattle.si_repair.proofs.Parts.{part-none, part-whole, part-append, part-contains, part-among}
 

@@ -28,8 +28,8 @@ use Rattle.robust_cert.specs.declared.entries.Told.{Told}
 use Rattle.robust_cert.specs.Accepted.{body_size}
 use Rattle.robust_cert.specs.Ranges.{IsSmall}
 use Rattle.robust_cert.specs.Sharing.{Entry, entry_with, reason_at, entry_told, entries_told, HasReason}
-use Rattle.si_repair.specs.Telling.{told_question, told_by, told_of, reason_of, told_numbered, Gives, IsOfFew, AskedFits, VerdictFits}
-use Rattle.si_repair.proofs.Telling.{IsEntryOf, entries_stand}
+use Rattle.si_repair.specs.Certificates.{told_question, told_by, told_of, reason_of, told_numbered, Gives, IsOfFew, AskedFits, VerdictFits}
+use Rattle.si_repair.proofs.Certificates.{IsEntryOf, entries_stand}
 use Rattle.si_repair.proofs.Smallness.{AreEndsSmall, question-small, falls-small, chains-small, pairs-below, access-below}
 
 -- ---- numbers

@@ -19,7 +19,7 @@ use Rattle.robust_cert.specs.declared.entries.Reason as reason
 use Rattle.robust_cert.specs.Accepted.{IsTold, IsToldApart, IsLeft, IsLeftVulnerable}
 use Rattle.robust_cert.specs.Sharing.{Entry, entry_with}
 use Rattle.si_repair.specs.Findings.{IsHarmless, TellsEach}
-use Rattle.si_repair.specs.Telling.{told_question, told_by, told_of}
+use Rattle.si_repair.specs.Certificates.{told_question, told_by, told_of}
 use Rattle.si_repair.proofs.Members.{just_one, told_one}
 
 abbrev Meets : Question → Access → Access → Type 0

@@ -1,6 +1,6 @@
 pub mod Members
 pub mod Parts
-pub mod Telling
+pub mod Certificates
 pub mod Leaving
 pub mod Accepting
 pub mod Analysing
@@ -9,7 +9,7 @@ pub mod Fitting
 pub mod Searching
 pub mod Closings
 pub mod Turns
-pub mod Gathering
+pub mod Exposed
 pub mod Firsts
 pub mod Ranking
 pub mod Marking

@@ -16,12 +16,11 @@ use Rattle.prog_paths.proofs.Marked.{same_access}
 use Rattle.repair_laws.specs.declared.plan.Pair.{Pair}
 use Rattle.repair_laws.specs.Keys.{ExposedOf}
 use Rattle.repair_laws.specs.Refusals.{IsStatementAt, IsRange, IsRangeAt, HasUnknownKey, HasRangeRead, HasUnknownRead, HasBodyRead}
-use Rattle.si_repair.specs.Exposing.{AreExposed, IsObstacle}
-use Rattle.si_repair.specs.Gathering.{HasRead, HasBoth}
-use Rattle.si_repair.specs.Obstacles.{range_marks, program_ranges, Hinders, HasHindered, IsFirstHindered, IsHindered, IsMarkedAt, obstacle_of}
+use Rattle.si_repair.specs.Exposed.{AreExposed, HasRead, HasBoth}
+use Rattle.si_repair.specs.Obstacles.{IsObstacle, range_marks, program_ranges, Hinders, HasHindered, IsFirstHindered, IsHindered, IsMarkedAt, obstacle_of}
 use Rattle.si_repair.specs.declared.repairs.obstacles.Obstacle.{Obstacle}
 use Rattle.si_repair.specs.declared.repairs.obstacles.Obstacle.TheVariants.{RangeRead, UnknownKey, BodyRead}
-use Rattle.si_repair.proofs.Gathering.{nothing, among_first}
+use Rattle.si_repair.proofs.Exposed.{nothing, among_first}
 
 -- ---- statements
 

@@ -4,7 +4,7 @@ use Rattle.std.specs.Prelude.{Contains}
 use Rattle.std.proofs.lemmas.List.Elements.{Contains-append_left, Contains-append_right}
 use Rattle.conflict_pairs.specs.Table.{Entry as Judged}
 use Rattle.robust_cert.specs.Sharing.{Entry}
-use Rattle.si_repair.specs.Telling.{told_by, told_of}
+use Rattle.si_repair.specs.Certificates.{told_by, told_of}
 
 pub just_one : {A : Type 0} (x : A) → Contains (x ∷ []) x
 just_one x = (zero, omega arith, refl)

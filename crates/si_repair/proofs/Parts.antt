@@ -5,7 +5,7 @@ use Rattle.std.proofs.lemmas.List.Elements.{Contains-append_left, Contains-appen
 use Rattle.prog_paths.specs.declared.accesses.places.Placed.{Placed}
 use Rattle.prog_paths.specs.declared.accesses.places.Question.{Question as Asked}
 use Rattle.prog_paths.specs.Asked.{asks, question_between, asked_by, asked_among}
-use Rattle.si_repair.specs.Exposing.{IsPart}
+use Rattle.si_repair.specs.Exposed.{IsPart}
 
 pub part-none : {A : Type 0} (xs : List A) → IsPart xs []
 part-none [] = refl

@@ -17,7 +17,7 @@ use Rattle.repair_laws.specs.declared.plan.Pair.{Pair}
 use Rattle.repair_laws.specs.Keys.{IsKeyOf}
 use Rattle.repair_laws.specs.Materialised.{first_of, second_of, is_one, keeps_for, in_front, count_params, params_of, with_front, all_with_front, HasKey, kept_columns}
 use Rattle.si_repair.proofs.Behind.{with_stmts-append}
-use Rattle.si_repair.specs.Carrying.{IsColumn, HasColumns, HaveColumns}
+use Rattle.si_repair.specs.Front.{IsColumn, HasColumns, HaveColumns}
 
 -- ---- statements in front of a block
 

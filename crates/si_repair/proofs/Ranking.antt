@@ -20,10 +20,9 @@ use Rattle.prog_paths.proofs.Shown.{single_at, may_touch-second}
 use Rattle.prog_paths.proofs.Marked.{same_access}
 use Rattle.repair_laws.specs.declared.plan.Pair.{Pair}
 use Rattle.repair_laws.specs.Keys.{ExposedOf, IsForcedEqual, IsLeastForced, IsKeyOf}
-use Rattle.si_repair.specs.Exposing.{AreExposed}
-use Rattle.si_repair.specs.Forcing.{AreMissed, IsMissed, AreFactsOf, PutEqual, AreLeft, ForceEqual, IsEarlier, ArePairsRising, params_with, all_pairs, AreForced, AreForcedAmong}
-use Rattle.si_repair.specs.Gathering.{ArePlacesOf, AreExposedAmong}
-use Rattle.si_repair.proofs.Gathering.{nothing, only_one, among_first, still_first, last_first, first_moved, of_pair-exposed, AreExposed-from_places}
+use Rattle.si_repair.specs.Exposed.{AreExposed, ArePlacesOf, AreExposedAmong}
+use Rattle.si_repair.specs.Key.{AreMissed, IsMissed, AreFactsOf, PutEqual, AreLeft, ForceEqual, IsEarlier, ArePairsRising, params_with, all_pairs, AreForced, AreForcedAmong}
+use Rattle.si_repair.proofs.Exposed.{nothing, only_one, among_first, still_first, last_first, first_moved, of_pair-exposed, AreExposed-from_places}
 
 -- ---- pairs in order
 

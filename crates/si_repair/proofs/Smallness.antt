@@ -17,7 +17,7 @@ use Rattle.prog_paths.specs.Questions.{mine_node, their_node, column_facts, colu
 use Rattle.prog_paths.specs.Shown.{Falls, Runs, ShowEqual, second_pair, key_pairs}
 use Rattle.prog_paths.specs.StaticGraph.{IsAccessOf}
 use Rattle.robust_cert.specs.Ranges.{IsOfSmall}
-use Rattle.si_repair.specs.Telling.{TightFits}
+use Rattle.si_repair.specs.Certificates.{TightFits}
 
 -- ---- nodes
 

@@ -10,7 +10,7 @@ use Rattle.repair_laws.specs.Refusals.{IsCoverable}
 use Rattle.si_repair.specs.declared.repairs.fault.RepairFault.{RepairFault}
 use Rattle.si_repair.specs.declared.repairs.promotion.Covered.{Covered}
 use Rattle.si_repair.specs.Checking.{IsRefused}
-use Rattle.si_repair.specs.Exposing.{AreExposed}
+use Rattle.si_repair.specs.Exposed.{AreExposed}
 use Rattle.si_repair.specs.Promoting.{IsObstacleFault}
 
 -- the questions of a pair are those that are exposed

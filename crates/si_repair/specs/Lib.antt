@@ -1,13 +1,12 @@
-pub mod Carrying
+pub mod Certificates
 pub mod Checking
 pub mod Covering
-pub mod Exposing
+pub mod Exposed
 pub mod Findings
-pub mod Forcing
-pub mod Gathering
+pub mod Front
+pub mod Key
 pub mod Obstacles
 pub mod Planning
 pub mod Promoting
 pub mod Repairing
-pub mod Telling
 pub mod Texts

@@ -9,10 +9,17 @@ use Rattle.prog_check.specs.Uses.{as_count}
 use Rattle.prog_paths.specs.StaticGraph.{IsAccessOf}
 use Rattle.prog_paths.specs.declared.accesses.places.Question.{Question as Asked}
 use Rattle.repair_laws.specs.declared.plan.Pair.{Pair}
-use Rattle.repair_laws.specs.Refusals.{is_range, HasUnknownKey, IsRangeAt}
-use Rattle.si_repair.specs.Exposing.{AreExposed}
+use Rattle.repair_laws.specs.Refusals.{is_range, HasRangeRead, HasUnknownKey, IsCoverable, IsRangeAt, StopsAtBody, StopsAtKey}
+use Rattle.si_repair.specs.Exposed.{AreExposed}
 use Rattle.si_repair.specs.declared.repairs.obstacles.Obstacle.{Obstacle}
 use Rattle.si_repair.specs.declared.repairs.obstacles.Obstacle.TheVariants.{RangeRead, UnknownKey, BodyRead}
+
+-- which reads of the pair no keep covers: a range comes before an unknown key, and that before an access in a body
+abbrev pub IsObstacle : DraftTree → Pair → Option Obstacle → Type 0
+IsObstacle draft pair None = IsCoverable draft pair
+IsObstacle draft pair (Some RangeRead) = HasRangeRead draft pair
+IsObstacle draft pair (Some UnknownKey) = StopsAtKey draft pair
+IsObstacle draft pair (Some BodyRead) = StopsAtBody draft pair
 
 -- ---- ranges
 

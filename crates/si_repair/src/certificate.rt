@@ -6,7 +6,7 @@ ghost use Rattle.conflict_pairs.specs.Table.{StandsFor};
 ghost use Rattle.robust_cert.specs.Accepted.{body_size};
 ghost use Rattle.robust_cert.specs.Ranges.{IsSmall};
 ghost use Rattle.robust_cert.specs.Sharing.{entries_told, HasReason};
-ghost use Rattle.si_repair.specs.Telling.{told_question, told_of, told_numbered, AreGiven, AreLevels, IsOfFew, AskedFits};
+ghost use Rattle.si_repair.specs.Certificates.{told_question, told_of, told_numbered, AreGiven, AreLevels, IsOfFew, AskedFits};
 
 use crate::reasons::reasons_of;
 use conflict_pairs::{Interned, PairTable, Verdict};

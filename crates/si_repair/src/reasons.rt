@@ -1,6 +1,6 @@
 //! The reasons that verdicts give. There are few different ones, so verdicts share them.
 ghost use Rattle.std.specs.Prelude.{◌≡◌, All, IsTrue, IfOk};
-ghost use Rattle.si_repair.specs.Telling.{reason_of, Gives, AreGiven, TightFits, VerdictFits};
+ghost use Rattle.si_repair.specs.Certificates.{reason_of, Gives, AreGiven, TightFits, VerdictFits};
 
 use crate::certificate::as_u32;
 use conflict_pairs::{Interned, Interner, Verdict, intern_all};

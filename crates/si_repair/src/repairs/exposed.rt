@@ -4,9 +4,8 @@ ghost use Rattle.prog_paths.specs.Asked.{ChangesSingleCells, numbers_of, questio
 ghost use Rattle.prog_paths.specs.Places.{IsAt};
 ghost use Rattle.prog_paths.specs.StaticGraph.{IsAccessOf};
 ghost use Rattle.conflict_pairs.specs.Verdicts.{TellsExposed};
-ghost use Rattle.si_repair.specs.Exposing.{AreExposed, IsFirstExposed};
+ghost use Rattle.si_repair.specs.Exposed.{AreExposed, IsFirstExposed, ArePlacesOfPair, MayMiss, IsExposedTo, AreExposedAmong, IsFirstAmong};
 ghost use Rattle.conflict_pairs.specs.Alike.{HasAccess};
-ghost use Rattle.si_repair.specs.Gathering.{ArePlacesOfPair, MayMiss, IsExposedTo, AreExposedAmong, IsFirstAmong};
 
 use conflict_pairs::is_exposed_question;
 use prog_check::{Access, Path};

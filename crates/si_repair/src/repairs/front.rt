@@ -4,7 +4,7 @@ ghost use Rattle.std.specs.List.{flat_map};
 ghost use Rattle.prog_tree.specs.Syntax.{Plain};
 ghost use Rattle.prog_tree.specs.Tree.{stmt_tree, program_tree, draft_tree};
 ghost use Rattle.repair_laws.specs.Materialised.{plain_table, keeps_for, with_front, all_with_front, HasKey, materialised_by};
-ghost use Rattle.si_repair.specs.Carrying.{HasColumns, HaveColumns};
+ghost use Rattle.si_repair.specs.Front.{HasColumns, HaveColumns};
 
 use crate::repairs::keeps::keeps_for;
 use prog_tree::{Arity, Block, Draft, Name, Program, Stmt, TableDecl, copy_tables};

@@ -4,7 +4,7 @@ ghost use Rattle.prog_paths.specs.Asked.{ChangesSingleCells};
 ghost use Rattle.prog_paths.specs.Places.{IsAt};
 ghost use Rattle.prog_paths.specs.declared.accesses.places.Question.{Question as Asked};
 ghost use Rattle.repair_laws.specs.Keys.{IsKeyOf};
-ghost use Rattle.si_repair.specs.Forcing.{IsMissed, AreFactsOf, PutEqual, AreLeft, AreForced, AreForcedAmong, params_with, all_pairs};
+ghost use Rattle.si_repair.specs.Key.{IsMissed, AreFactsOf, PutEqual, AreLeft, AreForced, AreForcedAmong, params_with, all_pairs};
 
 use crate::repairs::exposed::{PairPlaces, access_at, exposed_to, places_of_pair};
 use order_facts::{Closed, Node};

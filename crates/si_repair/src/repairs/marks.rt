@@ -1,7 +1,7 @@
 //! The statements behind which a cell is to be kept.
 ghost use Rattle.std.specs.Prelude.{◌≡◌, ◌||◌, ℕ, All, OnOk};
 ghost use Rattle.std.specs.List.{list_any};
-ghost use Rattle.si_repair.specs.Gathering.{HasRead};
+ghost use Rattle.si_repair.specs.Exposed.{HasRead};
 ghost use Rattle.si_repair.specs.Promoting.{is_marked, is_at, reads_at, place_of};
 
 use prog_check::Path;

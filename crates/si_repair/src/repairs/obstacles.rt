@@ -3,9 +3,8 @@ ghost use Rattle.std.specs.Prelude.{◌≡◌, ◌↔◌, false, All, IfOk, IsTr
 ghost use Rattle.prog_tree.specs.Tree.{draft_tree};
 ghost use Rattle.prog_check.specs.Paths.{paths_of};
 ghost use Rattle.repair_laws.specs.Refusals.{IsUnknownTerm, IsUnknownSecond, HasUnknownKey};
-ghost use Rattle.si_repair.specs.Gathering.{HasBoth};
-ghost use Rattle.si_repair.specs.Exposing.{AreExposed, IsObstacle};
-ghost use Rattle.si_repair.specs.Obstacles.{IsMarkedAt, MeetInBody, Hinders, HasHindered, IsFirstHindered, IsFirstHinderedOf, obstacle_of};
+ghost use Rattle.si_repair.specs.Exposed.{HasBoth, AreExposed};
+ghost use Rattle.si_repair.specs.Obstacles.{IsObstacle, IsMarkedAt, MeetInBody, Hinders, HasHindered, IsFirstHindered, IsFirstHinderedOf, obstacle_of};
 
 use crate::repairs::exposed::{access_at, exposed_questions};
 use crate::repairs::ranges::{is_range, ranges_of};

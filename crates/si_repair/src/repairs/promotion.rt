@@ -5,7 +5,7 @@ ghost use Rattle.prog_check.specs.Paths.{paths_of};
 ghost use Rattle.prog_check.specs.Sound.{IsSound};
 ghost use Rattle.repair_laws.specs.Promoted.{IsPromoted, MarksExposed};
 ghost use Rattle.repair_laws.specs.Refusals.{IsCoverable, StopsPromotion};
-ghost use Rattle.si_repair.specs.Exposing.{AreExposed};
+ghost use Rattle.si_repair.specs.Exposed.{AreExposed};
 ghost use Rattle.si_repair.specs.Covering.{pairs_of, AreCovered, AreGathered, HasItsQuestions, HasCoveredReads, IsRefusedWith, IsSoundWith};
 ghost use Rattle.si_repair.specs.Promoting.{is_marked, IsObstacleFault};
 ghost use Rattle.si_repair.specs.Repairing.{IsCarriedOut, IsRepairFault};

@@ -6,7 +6,7 @@ use Rattle.conflict_pairs.proofs.Serving.{served-at}
 use Rattle.conflict_pairs.proofs.Zipped.{AllZip-lengths}
 use Rattle.dep_graph.proofs.Entries.{entry_at}
 use Rattle.robust_cert.specs.Sharing.{entries_told}
-use Rattle.si_repair.specs.Telling.{AskedFits, told_of, Gives}
+use Rattle.si_repair.specs.Certificates.{AskedFits, told_of, Gives}
 use Rattle.si_repair.proofs.Fitting.{entry_fits, told_more, told_end, numbered_more, within_more}
 use Rattle.si_repair.proofs.certificate.all_told.Goals as goal
 

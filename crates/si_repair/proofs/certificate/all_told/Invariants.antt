@@ -1,7 +1,7 @@
 use Rattle.std.proofs.Common.{◌≡◌, ◌≤◌, ◌++◌, drop, length, vec_len, vec_capacity}
 use Rattle.std.specs.Prelude.{All}
 use Rattle.robust_cert.specs.Sharing.{entries_told, HasReason}
-use Rattle.si_repair.specs.Telling.{told_of}
+use Rattle.si_repair.specs.Certificates.{told_of}
 use Rattle.si_repair.proofs.certificate.all_told.Given as goal
 
 -- what is told so far, with what the entries that are left tell, for each of which there is room

@@ -1,7 +1,7 @@
 use Rattle.std.proofs.Common.{List, sym, subst}
 use Rattle.std.specs.Prelude.{All}
 use Rattle.conflict_pairs.specs.declared.verdicts.Verdict.{Verdict}
-use Rattle.si_repair.specs.Telling.{VerdictFits}
+use Rattle.si_repair.specs.Certificates.{VerdictFits}
 use Rattle.si_repair.proofs.Fitting.{verdicts_fit}
 use Rattle.si_repair.proofs.certificate.entries_of.Goals as goal
 

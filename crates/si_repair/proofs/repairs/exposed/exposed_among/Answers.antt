@@ -1,6 +1,6 @@
 use Rattle.std.proofs.Common.{◌∙◌, ◌++◌, List, ap, arith}
 use Rattle.prog_paths.specs.declared.accesses.places.Question.{Question}
-use Rattle.si_repair.proofs.Gathering.{more-firsts}
+use Rattle.si_repair.proofs.Exposed.{more-firsts}
 use Rattle.si_repair.proofs.repairs.exposed.exposed_among.Goals as goal
 
 pub loop-first-preserved : goal.loop-first-preserved

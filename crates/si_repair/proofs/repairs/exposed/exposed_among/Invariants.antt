@@ -1,5 +1,5 @@
 use Rattle.std.proofs.Common.{take}
-use Rattle.si_repair.specs.Gathering.{AreExposedAmong}
+use Rattle.si_repair.specs.Exposed.{AreExposedAmong}
 use Rattle.si_repair.proofs.repairs.exposed.exposed_among.Given as goal
 
 -- the questions of the accesses so far

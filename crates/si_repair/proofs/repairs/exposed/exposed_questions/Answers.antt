@@ -1,5 +1,5 @@
 use Rattle.std.proofs.lemmas.Result.{IfOk-weaker}
-use Rattle.si_repair.proofs.Gathering.{same_places, AreExposed-from_places}
+use Rattle.si_repair.proofs.Exposed.{same_places, AreExposed-from_places}
 use Rattle.si_repair.proofs.repairs.exposed.exposed_questions.Goals as goal
 
 pub exposed_among-requires-clause-firsts : goal.exposed_among-requires-clause-firsts

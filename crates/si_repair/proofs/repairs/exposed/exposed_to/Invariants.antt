@@ -1,5 +1,5 @@
 use Rattle.std.proofs.Common.{take, [], ◌∷◌}
-use Rattle.si_repair.specs.Gathering.{AreExposedAmong}
+use Rattle.si_repair.specs.Exposed.{AreExposedAmong}
 use Rattle.si_repair.proofs.repairs.exposed.exposed_to.Given as goal
 
 -- the questions to the accesses so far

@@ -3,8 +3,8 @@ use Rattle.std.specs.Prelude.{slice_get}
 use Rattle.std.proofs.lemmas.List.{take_all}
 use Rattle.prog_paths.specs.declared.accesses.places.Placed.{Placed}
 use Rattle.prog_paths.specs.declared.accesses.places.Question.{Question}
-use Rattle.si_repair.specs.Gathering.{AreExposedAmong}
-use Rattle.si_repair.proofs.Gathering.{among-no_firsts}
+use Rattle.si_repair.specs.Exposed.{AreExposedAmong}
+use Rattle.si_repair.proofs.Exposed.{among-no_firsts}
 use Rattle.si_repair.proofs.Firsts.{found_next, none_next}
 use Rattle.si_repair.proofs.repairs.exposed.first_among.Goals as goal
 

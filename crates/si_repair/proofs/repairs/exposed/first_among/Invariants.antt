@@ -1,5 +1,5 @@
 use Rattle.std.proofs.Common.{take, []}
-use Rattle.si_repair.specs.Gathering.{AreExposedAmong}
+use Rattle.si_repair.specs.Exposed.{AreExposedAmong}
 use Rattle.si_repair.proofs.repairs.exposed.first_among.Given as goal
 
 -- none of the accesses so far is exposed to any

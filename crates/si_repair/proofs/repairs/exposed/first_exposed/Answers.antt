@@ -1,5 +1,5 @@
 use Rattle.std.proofs.lemmas.Result.{IfOk-weaker}
-use Rattle.si_repair.proofs.Gathering.{same_places}
+use Rattle.si_repair.proofs.Exposed.{same_places}
 use Rattle.si_repair.proofs.Firsts.{first-from_places}
 use Rattle.si_repair.proofs.repairs.exposed.first_exposed.Goals as goal
 

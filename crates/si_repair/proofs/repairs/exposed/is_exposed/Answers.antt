@@ -1,4 +1,4 @@
-use Rattle.si_repair.proofs.Gathering.{exposed-from_told}
+use Rattle.si_repair.proofs.Exposed.{exposed-from_told}
 use Rattle.si_repair.proofs.repairs.exposed.is_exposed.Goals as goal
 
 pub returns : goal.returns

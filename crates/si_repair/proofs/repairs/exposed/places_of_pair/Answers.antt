@@ -1,4 +1,4 @@
-use Rattle.si_repair.proofs.Gathering.{places_of_pair}
+use Rattle.si_repair.proofs.Exposed.{places_of_pair}
 use Rattle.si_repair.proofs.repairs.exposed.places_of_pair.Goals as goal
 
 pub returns : goal.returns

@@ -1,5 +1,5 @@
 use Rattle.std.proofs.Common.{length}
-use Rattle.si_repair.specs.Carrying.{HasColumns}
+use Rattle.si_repair.specs.Front.{HasColumns}
 use Rattle.si_repair.proofs.Putting.{met_at}
 use Rattle.si_repair.proofs.repairs.front.front_of.Goals as goal
 

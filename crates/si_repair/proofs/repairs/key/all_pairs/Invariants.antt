@@ -1,5 +1,5 @@
 use Rattle.std.proofs.Common.{◌≡◌}
-use Rattle.si_repair.specs.Forcing.{all_pairs}
+use Rattle.si_repair.specs.Key.{all_pairs}
 use Rattle.si_repair.proofs.repairs.key.all_pairs.Given as goal
 
 abbrev pub invariant-loop-first : goal.invariant-loop-first

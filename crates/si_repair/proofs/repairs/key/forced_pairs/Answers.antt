@@ -3,8 +3,8 @@ use Rattle.std.specs.Prelude.{All}
 use Rattle.std.proofs.lemmas.Bool.{eqb-true}
 use Rattle.std.proofs.lemmas.List.{nil_from_length}
 use Rattle.prog_paths.specs.declared.accesses.places.Question.{Question}
-use Rattle.si_repair.specs.Forcing.{IsMissed, AreForced}
-use Rattle.si_repair.proofs.Gathering.{among-no_firsts, more-firsts}
+use Rattle.si_repair.specs.Key.{IsMissed, AreForced}
+use Rattle.si_repair.proofs.Exposed.{among-no_firsts, more-firsts}
 use Rattle.si_repair.proofs.Ranking.{AreForced-none, missed_by}
 use Rattle.si_repair.proofs.repairs.key.forced_pairs.Goals as goal
 

@@ -1,7 +1,7 @@
 use Rattle.std.proofs.Common.{List, take}
 use Rattle.prog_paths.specs.declared.accesses.places.Question.{Question}
-use Rattle.si_repair.specs.Forcing.{AreForced}
-use Rattle.si_repair.specs.Gathering.{AreExposedAmong}
+use Rattle.si_repair.specs.Key.{AreForced}
+use Rattle.si_repair.specs.Exposed.{AreExposedAmong}
 use Rattle.si_repair.proofs.repairs.key.forced_pairs.Given as goal
 
 -- the pairs that the exposed questions of the accesses so far force

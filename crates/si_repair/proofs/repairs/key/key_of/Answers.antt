@@ -1,8 +1,8 @@
 use Rattle.std.proofs.Common.{ℕ, ◌∙◌, List, sym, subst}
 use Rattle.std.specs.Prelude.{Option}
 use Rattle.repair_laws.specs.Keys.{IsKeyOf}
-use Rattle.si_repair.specs.Forcing.{AreForcedAmong}
-use Rattle.si_repair.proofs.Gathering.{same_places}
+use Rattle.si_repair.specs.Key.{AreForcedAmong}
+use Rattle.si_repair.proofs.Exposed.{same_places}
 use Rattle.si_repair.proofs.Ranking.{IsKeyOf-among}
 use Rattle.si_repair.proofs.repairs.key.key_of.Goals as goal
 

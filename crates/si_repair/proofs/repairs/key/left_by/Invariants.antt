@@ -1,5 +1,5 @@
 use Rattle.std.proofs.Common.{take}
-use Rattle.si_repair.specs.Forcing.{AreLeft}
+use Rattle.si_repair.specs.Key.{AreLeft}
 use Rattle.si_repair.proofs.repairs.key.left_by.Given as goal
 
 -- those of the pairs so far

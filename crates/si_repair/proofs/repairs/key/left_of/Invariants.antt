@@ -1,6 +1,6 @@
 use Rattle.std.proofs.Common.{ℕ, List, ◌++◌, take}
 use Rattle.prog_paths.specs.declared.accesses.places.Question.{Question}
-use Rattle.si_repair.specs.Forcing.{AreForced}
+use Rattle.si_repair.specs.Key.{AreForced}
 use Rattle.si_repair.proofs.repairs.key.left_of.Given as goal
 
 -- those that the questions so far leave

@@ -2,7 +2,7 @@ use Rattle.std.proofs.Common.{◌∙◌, sym, subst}
 use Rattle.std.specs.Prelude.{Option}
 use Rattle.prog_tree.specs.Tree.{draft_tree}
 use Rattle.si_repair.specs.declared.repairs.obstacles.Obstacle.{Obstacle}
-use Rattle.si_repair.specs.Exposing.{IsObstacle}
+use Rattle.si_repair.specs.Obstacles.{IsObstacle}
 use Rattle.si_repair.proofs.Marking.{HasBoth-each, IsObstacle-first}
 use Rattle.si_repair.proofs.repairs.obstacles.first_obstacle.Goals as goal
 

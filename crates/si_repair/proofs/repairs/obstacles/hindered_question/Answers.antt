@@ -6,8 +6,7 @@ use Rattle.prog_paths.specs.Asked.{ChangesSingleCells}
 use Rattle.prog_paths.specs.declared.accesses.places.Question.{Question}
 use Rattle.prog_paths.proofs.SingleCells.{law_of_single_changes}
 use Rattle.repair_laws.specs.Refusals.{IsRangeAt}
-use Rattle.si_repair.specs.Exposing.{AreExposed}
-use Rattle.si_repair.specs.Gathering.{HasBoth}
+use Rattle.si_repair.specs.Exposed.{AreExposed, HasBoth}
 use Rattle.si_repair.specs.Obstacles.{program_ranges, IsFirstHindered, IsMarkedAt}
 use Rattle.si_repair.proofs.Marking.{first-alike, mark-from_range_at, range_at-from_mark, HasBoth-each}
 use Rattle.si_repair.proofs.repairs.obstacles.hindered_question.Goals as goal

@@ -3,7 +3,7 @@ use Rattle.std.proofs.lemmas.Option.{slice_get-get_or}
 use Rattle.prog_tree.specs.Tree.{draft_tree}
 use Rattle.prog_check.specs.declared.path.Path.{Path}
 use Rattle.si_repair.specs.declared.repairs.promotion.Covered.{Covered}
-use Rattle.si_repair.specs.Exposing.{AreExposed}
+use Rattle.si_repair.specs.Exposed.{AreExposed}
 use Rattle.si_repair.specs.Covering.{AreCovered, HasCoveredReads}
 use Rattle.si_repair.proofs.Covering.{none_covered, one_more_covered, all_covered}
 use Rattle.si_repair.proofs.repairs.promotion.covered_pairs.Goals as goal

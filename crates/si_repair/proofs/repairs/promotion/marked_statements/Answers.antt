@@ -6,7 +6,7 @@ use Rattle.repair_laws.specs.Promoted.{MarksExposed}
 use Rattle.si_repair.specs.declared.repairs.marks.MarkedStatement.{MarkedStatement}
 use Rattle.si_repair.specs.declared.repairs.promotion.Covered.{Covered}
 use Rattle.si_repair.specs.Covering.{pairs_of, HasItsQuestions}
-use Rattle.si_repair.specs.Exposing.{AreExposed}
+use Rattle.si_repair.specs.Exposed.{AreExposed}
 use Rattle.si_repair.specs.Promoting.{is_marked}
 use Rattle.si_repair.proofs.Marking.{HasRead-each}
 use Rattle.si_repair.proofs.Marks.{adds-reads, marks-none, marks-more}

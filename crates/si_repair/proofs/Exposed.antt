@@ -19,9 +19,8 @@ use Rattle.conflict_pairs.specs.Verdicts.{TellsExposed}
 use Rattle.repair_laws.specs.declared.plan.Pair.{Pair}
 use Rattle.repair_laws.specs.Striking.{IsOfProgram}
 use Rattle.repair_laws.specs.Keys.{ExposedOf}
-use Rattle.si_repair.specs.Exposing.{IsPart, AreExposed}
+use Rattle.si_repair.specs.Exposed.{IsPart, AreExposed, ArePlacesOf, ArePlacesOfPair, MayMiss, IsExposedTo, IsExposedOf, AreExposedAmong}
 use Rattle.conflict_pairs.specs.Alike.{HasAccess}
-use Rattle.si_repair.specs.Gathering.{ArePlacesOf, ArePlacesOfPair, MayMiss, IsExposedTo, IsExposedOf, AreExposedAmong}
 use Rattle.si_repair.proofs.Members.{just_one}
 use Rattle.si_repair.proofs.Parts.{part-none, part-whole, part-append, part-contains, part-trans, part-among}
 

@@ -22,7 +22,7 @@ use Rattle.robust_cert.specs.declared.entries.Reason as reason
 use Rattle.robust_cert.specs.Accepted.{question_of, IsCoverOf, Holds}
 use Rattle.robust_cert.specs.Sharing.{Entry, entry_with}
 use Rattle.si_repair.specs.Findings.{IsOwnEntry}
-use Rattle.si_repair.specs.Telling.{told_question, told_by, told_of}
+use Rattle.si_repair.specs.Certificates.{told_question, told_by, told_of}
 
 -- ---- in order
 

@@ -1,15 +1,44 @@
--- Which accesses are exposed to others: words of private clauses.
-use Rattle.std.specs.Prelude.{◌≡◌, ℕ, List, [], ◌∷◌, take, All, Contains, Option, Some, None}
+-- The exposed questions of a pair of programs; and, for private clauses, which accesses are exposed to others.
+use Rattle.std.specs.Prelude.{◌≡◌, ◌⊎◌, ℕ, List, [], ◌∷◌, take, All, Contains, Option, Some, None}
 use Rattle.prog_check.specs.declared.path.Path.{Path}
 use Rattle.prog_paths.specs.StaticGraph.{AsksReadWrite, IsExposed}
 use Rattle.prog_paths.specs.declared.accesses.places.Placed.{Placed}
 use Rattle.prog_paths.specs.declared.accesses.places.Question.{Question as Asked}
-use Rattle.prog_paths.specs.Asked.{all_from, numbers_of, question_between, asked_among}
+use Rattle.prog_paths.specs.Asked.{all_from, numbers_of, question_between, asked_among, questions_of}
+use Rattle.prog_paths.specs.Listing.{IsBefore}
 use Rattle.prog_paths.specs.Places.{IsAt}
 use Rattle.conflict_pairs.specs.Alike.{HasAccess}
 use Rattle.repair_laws.specs.declared.plan.Pair.{Pair}
+use Rattle.repair_laws.specs.Keys.{ExposedOf}
 use Rattle.repair_laws.specs.Striking.{IsOfProgram}
-use Rattle.si_repair.specs.Exposing.{IsPart}
+
+-- a part of a list has some of its elements, in its order
+abbrev pub IsPart : {A : Type 0} → (whole part : List A) → Type 0
+IsPart [] part = part ≡ []
+IsPart {A = A} (x ∷ rest) part = IsPart rest part ⊎ ((tail : List A) × (part ≡ x ∷ tail) × IsPart rest tail)
+
+-- these are the exposed questions of the pair: some of all questions of the paths, in their order; each one listed is
+-- exposed, and each is listed
+pub record AreExposed (nodes : List Path) (pair : Pair) (questions : List Asked) : Type 0 where
+  pub part : IsPart (questions_of nodes) questions
+  pub only : (q : Asked) → Contains questions q
+      → (e : ExposedOf nodes pair) × (e.question.question ≡ numbers_of q)
+  pub each : (e : ExposedOf nodes pair)
+      → (q : Asked) × Contains questions q × (e.question.question ≡ numbers_of q)
+
+-- the first of all questions of the paths that is exposed, and of the pair
+pub record IsFirstOfExposed (nodes : List Path) (pair : Pair) (q : Asked) : Type 0 where
+  pub listed : Contains (questions_of nodes) q
+  pub exposed : (e : ExposedOf nodes pair) × (e.question.question ≡ numbers_of q)
+  pub first : (e : ExposedOf nodes pair)
+      → (e.question.question ≡ numbers_of q) ⊎ IsBefore (numbers_of q) e.question.question
+
+-- the same, or that the pair has none
+abbrev pub IsFirstExposed : List Path → Pair → Option Asked → Type 0
+IsFirstExposed nodes pair None = ¬ ExposedOf nodes pair
+IsFirstExposed nodes pair (Some q) = IsFirstOfExposed nodes pair q
+
+-- ---- accesses
 
 -- the first access of a question is there
 abbrev pub HasRead : List Path → Asked → Type 0

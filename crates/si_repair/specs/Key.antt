@@ -11,7 +11,7 @@ use Rattle.prog_paths.specs.StaticGraph.{AsksOf, AsksReadWrite}
 use Rattle.prog_paths.specs.declared.accesses.places.Placed.{Placed}
 use Rattle.prog_paths.specs.declared.accesses.places.Question.{Question as Asked}
 use Rattle.prog_paths.specs.Asked.{numbers_of}
-use Rattle.si_repair.specs.Gathering.{AreExposedAmong}
+use Rattle.si_repair.specs.Exposed.{AreExposedAmong}
 
 -- the two accesses are those of a question whose first may miss what its second changes
 pub record AreMissed (nodes : List Path) (q : Asked) (mine theirs : Access) : Type 0 where
