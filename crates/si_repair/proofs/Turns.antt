@@ -14,7 +14,7 @@ use Rattle.repair_laws.specs.Closing.{pair_from, ClosesWithout, IsPlanFor, IsHel
 use Rattle.repair_laws.proofs.KeepsOn.{program_of_path}
 use Rattle.repair_laws.proofs.PlanLaws.{not_before_itself}
 use Rattle.repair_laws.proofs.ClosingLaws.{closing, law_of_plan_steps}
-use Rattle.si_repair.specs.declared.plans.closing.Triple.{Triple}
+use Rattle.si_repair.specs.declared.plans.closing.ProgramTriple.{ProgramTriple}
 use Rattle.si_repair.specs.Planning.{AreOfPrograms, first_pair, second_pair, ClosesTriple, AreClosing, IsOpenAtTurn, LacksPair, AreWithout, IsBeforeTurn, IsOutside, IsPartialPlan}
 use Rattle.si_repair.specs.Repairing.{IsInRange}
 use Rattle.si_repair.proofs.Searching.{all-contained}
@@ -56,7 +56,7 @@ test-from_before turn p (inl l) = or_left (ltb p.from turn.from) (eqb p.from tur
 test-from_before turn p (inr (e, l)) = or_right (ltb p.from turn.from) (eqb p.from turn.from && ltb p.to turn.to) (and_from (eqb p.from turn.from) (ltb p.to turn.to) (eq-eqb p.from turn.from e) (lt-ltb p.to turn.to l))
 
 module _ (nodes : List Path) where
-  closes_vulnerable : (t : Triple) → ClosesTriple nodes t → IsVulnerablePair nodes (first_pair t) × IsVulnerablePair nodes (second_pair t)
+  closes_vulnerable : (t : ProgramTriple) → ClosesTriple nodes t → IsVulnerablePair nodes (first_pair t) × IsVulnerablePair nodes (second_pair t)
   closes_vulnerable t (x, y, z, fx, fy, fz, d) = ((x, y, (fx, fy), d.first), (y, z, (fy, fz), d.second))
 
   pub vulnerable_within : (programs : ℕ) → AreOfPrograms programs nodes → (p : Pair) → IsVulnerablePair nodes p → (p.from < programs) × (p.to < programs)
@@ -71,21 +71,21 @@ module _ (nodes : List Path) where
       go p (inl a) = is.each p a
       go p (inr not) = (λ c. (is.each p (is.inside p c)).0 c, λ h. absurd (not h.0))
 
-  pub partial-wider : (plan : List Pair) (triples : List Triple) (A B : Pair → Type 0) → ((p : Pair) → A p → B p) → ((p : Pair) → B p → A p ⊎ (IsVulnerablePair nodes p → ⊥)) → IsPartialPlan nodes plan triples A → IsPartialPlan nodes plan triples B
+  pub partial-wider : (plan : List Pair) (triples : List ProgramTriple) (A B : Pair → Type 0) → ((p : Pair) → A p → B p) → ((p : Pair) → B p → A p ⊎ (IsVulnerablePair nodes p → ⊥)) → IsPartialPlan nodes plan triples A → IsPartialPlan nodes plan triples B
   partial-wider plan triples A B more back is = record {
     is_plan = plan-wider plan A B more back is.is_plan;
     are_left = is.are_left;
     ahead = λ t c a b. go t c (back (first_pair t) a) (back (second_pair t) b);
   }
     where
-      go : (t : Triple) → Contains triples t → A (first_pair t) ⊎ (IsVulnerablePair nodes (first_pair t) → ⊥) → A (second_pair t) ⊎ (IsVulnerablePair nodes (second_pair t) → ⊥) → ⊥
+      go : (t : ProgramTriple) → Contains triples t → A (first_pair t) ⊎ (IsVulnerablePair nodes (first_pair t) → ⊥) → A (second_pair t) ⊎ (IsVulnerablePair nodes (second_pair t) → ⊥) → ⊥
       go t c (inl a) (inl b) = is.ahead t c a b
       go t c (inl a) (inr not) = not (closes_vulnerable t ((is.are_left t).0 c).0).1
       go t c (inr not) o = not (closes_vulnerable t ((is.are_left t).0 c).0).0
 
   -- ---- one turn
 
-  module _ (plan : List Pair) (triples : List Triple) (turn : Pair) (is : IsPartialPlan nodes plan triples (IsBeforeTurn turn)) where
+  module _ (plan : List Pair) (triples : List ProgramTriple) (turn : Pair) (is : IsPartialPlan nodes plan triples (IsBeforeTurn turn)) where
     tested : IsPlanFor nodes plan (λ p. is_before turn p ≡ true)
     tested = plan-wider plan (IsBeforeTurn turn) (λ p. is_before turn p ≡ true) (test-from_before turn) (λ p h. inl (before-from_test turn p h)) is.is_plan
 
@@ -109,7 +109,7 @@ module _ (nodes : List Path) where
       where
         go : ClosesWithout nodes (IsHeldNow plan turn) → IsOpenAtTurn triples turn
         go (first, second, third, closes, one, other) =
-            let t : Triple = record { first = first; second = second; third = third } in
+            let t : ProgramTriple = record { first = first; second = second; third = third } in
             let c = (is.are_left t).1 (closes, (λ h. one (inl h), λ h. other (inl h))) in
             (c.0, t, c.1, c.2, (λ h. one (inr h), λ h. other (inr h)))
 
@@ -140,7 +140,7 @@ module _ (nodes : List Path) where
       ahead = λ t c a b. none (c.0, t, c.1, c.2, (not_behind (first_pair t) turn a, not_behind (second_pair t) turn b));
     }
 
-    pub turn-put : (rest : List Triple) → IsOpenAtTurn triples turn → AreWithout triples turn rest → IsPartialPlan nodes (plan ++ turn ∷ []) rest (AndThis (IsBeforeTurn turn) turn)
+    pub turn-put : (rest : List ProgramTriple) → IsOpenAtTurn triples turn → AreWithout triples turn rest → IsPartialPlan nodes (plan ++ turn ∷ []) rest (AndThis (IsBeforeTurn turn) turn)
     turn-put rest some without = record {
       is_plan = untested (plan ++ turn ∷ []) (goes_on.put (vulnerable-from_open some) (danger-from_open some));
       are_left = λ t. (λ c. to t ((without t).0 c), λ h. from t h);
@@ -154,13 +154,13 @@ module _ (nodes : List Path) where
             go (inl h) = old h
             go (inr e) = other (sym e)
 
-        to : (t : Triple) → Contains triples t × LacksPair turn t → ClosesTriple nodes t × IsOutside (plan ++ turn ∷ []) t
+        to : (t : ProgramTriple) → Contains triples t × LacksPair turn t → ClosesTriple nodes t × IsOutside (plan ++ turn ∷ []) t
         to t (c, lacks) = let h = (is.are_left t).0 c in (h.0, (outside (first_pair t) h.1.0 lacks.0, outside (second_pair t) h.1.1 lacks.1))
 
         other : (p : Pair) → (Contains (plan ++ turn ∷ []) p → ⊥) → p ≡ turn → ⊥
         other p out e = out (subst (λ (q : Pair). Contains (plan ++ turn ∷ []) q) (sym e) (Contains-push plan turn))
 
-        from : (t : Triple) → ClosesTriple nodes t × IsOutside (plan ++ turn ∷ []) t → Contains rest t
+        from : (t : ProgramTriple) → ClosesTriple nodes t × IsOutside (plan ++ turn ∷ []) t → Contains rest t
         from t (closes, out) =
             (without t).1 (
               (is.are_left t).1 (closes, (λ c. out.0 (Contains-append_left plan (turn ∷ []) (first_pair t) c), λ c. out.1 (Contains-append_left plan (turn ∷ []) (second_pair t) c))),
@@ -173,7 +173,7 @@ module _ (nodes : List Path) where
 
   -- ---- turn after turn
 
-  pub next-turn : (from to : ℕ) (plan : List Pair) (triples : List Triple) → IsPartialPlan nodes plan triples (AndThis (IsBeforeTurn (pair_from from to)) (pair_from from to)) → IsPartialPlan nodes plan triples (IsBeforeTurn (pair_from from (to + 1)))
+  pub next-turn : (from to : ℕ) (plan : List Pair) (triples : List ProgramTriple) → IsPartialPlan nodes plan triples (AndThis (IsBeforeTurn (pair_from from to)) (pair_from from to)) → IsPartialPlan nodes plan triples (IsBeforeTurn (pair_from from (to + 1)))
   next-turn from to plan triples is =
       partial-wider plan triples (AndThis (IsBeforeTurn (pair_from from to)) (pair_from from to)) (IsBeforeTurn (pair_from from (to + 1))) forth (λ p h. inl (back p h)) is
     where
@@ -192,7 +192,7 @@ module _ (nodes : List Path) where
       back p (inr h) = at p h.0 (cases_order p.to to) h.1
 
   module _ (programs : ℕ) (are : AreOfPrograms programs nodes) where
-    pub next-program : (from to : ℕ) (plan : List Pair) (triples : List Triple) → programs ≤ to → IsPartialPlan nodes plan triples (IsBeforeTurn (pair_from from to)) → IsPartialPlan nodes plan triples (IsBeforeTurn (pair_from (from + 1) 0))
+    pub next-program : (from to : ℕ) (plan : List Pair) (triples : List ProgramTriple) → programs ≤ to → IsPartialPlan nodes plan triples (IsBeforeTurn (pair_from from to)) → IsPartialPlan nodes plan triples (IsBeforeTurn (pair_from (from + 1) 0))
     next-program from to plan triples past is =
         partial-wider plan triples (IsBeforeTurn (pair_from from to)) (IsBeforeTurn (pair_from (from + 1) 0)) forth back is
       where
@@ -210,7 +210,7 @@ module _ (nodes : List Path) where
         back p (inl l) = at p l (cases_order p.from from) (cases_lt p.to to)
         back p (inr h) = let l = h.1 in absurd (omega (arith, l))
 
-    pub start : (triples : List Triple) → AreClosing nodes programs triples → IsPartialPlan nodes [] triples (IsBeforeTurn (pair_from 0 0))
+    pub start : (triples : List ProgramTriple) → AreClosing nodes programs triples → IsPartialPlan nodes [] triples (IsBeforeTurn (pair_from 0 0))
     start triples closing_are = record {
       is_plan = record { rises = tt; inside = λ p c. let k = c.1 in absurd (omega (arith, k)); each = λ p b. absurd (nothing p b) };
       are_left = λ t. (λ c. (((closing_are t).0 c).3, (λ k. let l = k.1 in omega (arith, l), λ k. let l = k.1 in omega (arith, l))), λ h. (closing_are t).1 (whole t h.0));
@@ -221,14 +221,14 @@ module _ (nodes : List Path) where
         nothing p (inl l) = omega (arith, l)
         nothing p (inr h) = let l = h.1 in omega (arith, l)
 
-        whole : (t : Triple) → ClosesTriple nodes t → (t.first < programs) × (t.second < programs) × (t.third < programs) × ClosesTriple nodes t
+        whole : (t : ProgramTriple) → ClosesTriple nodes t → (t.first < programs) × (t.second < programs) × (t.third < programs) × ClosesTriple nodes t
         whole t h =
             let v = closes_vulnerable t h in
             let one = vulnerable_within programs are (first_pair t) v.0 in
             let two = vulnerable_within programs are (second_pair t) v.1 in
             (one.0, one.1, two.1, h)
 
-    pub end : (n : ℕ) (plan : List Pair) (triples : List Triple) → programs ≤ n → IsPartialPlan nodes plan triples (IsBeforeTurn (pair_from n 0)) → IsPlan nodes plan
+    pub end : (n : ℕ) (plan : List Pair) (triples : List ProgramTriple) → programs ≤ n → IsPartialPlan nodes plan triples (IsBeforeTurn (pair_from n 0)) → IsPlan nodes plan
     end n plan triples past is =
         let all = plan-wider plan (IsBeforeTurn (pair_from n 0)) (λ p. Unit {0}) (λ p h. tt) (λ p h. back p (cases_lt p.from n)) is.is_plan in
         record { rises = all.rises; each = λ p. all.each p tt }
@@ -249,7 +249,7 @@ all_of_programs draft x program (path, at, is) =
 pub in_range : (draft : DraftTree) (plan : List Pair) → IsPlan (paths_of draft) plan → All (IsInRange draft) plan
 in_range draft plan is = all-contained (IsInRange draft) plan (λ p c. vulnerable_within (paths_of draft) (length draft.programs) (all_of_programs draft) p ((is.each p).0 c).0)
 
-pub planned : (draft : DraftTree) (nodes : List Path) (programs : ℕ) (triples : List Triple) (plan : List Pair) → nodes ≡ paths_of draft → programs ≡ length draft.programs → AreClosing nodes programs triples →
+pub planned : (draft : DraftTree) (nodes : List Path) (programs : ℕ) (triples : List ProgramTriple) (plan : List Pair) → nodes ≡ paths_of draft → programs ≡ length draft.programs → AreClosing nodes programs triples →
     ((paths : List Path) → AreOfPrograms programs paths → AreClosing paths programs triples → IsPlan paths plan) → IsPlan (paths_of draft) plan
 planned draft nodes programs triples plan same count closing_are made =
     made (paths_of draft) (subst (λ n. AreOfPrograms n (paths_of draft)) (sym count) (all_of_programs draft)) (subst (λ (paths : List Path). AreClosing paths programs triples) same closing_are)

@@ -7,7 +7,7 @@ use Rattle.prog_paths.specs.StaticGraph.{StaticEdge, IsVulnerable, IsDangerousAt
 use Rattle.repair_laws.specs.declared.plan.Pair.{Pair}
 use Rattle.repair_laws.specs.Striking.{IsOfProgram, IsPairBefore}
 use Rattle.repair_laws.specs.Closing.{Closes, pair_from, IsPlanFor}
-use Rattle.si_repair.specs.declared.plans.closing.Triple.{Triple}
+use Rattle.si_repair.specs.declared.plans.closing.ProgramTriple.{ProgramTriple}
 
 -- ---- nodes
 
@@ -43,66 +43,66 @@ BeginsIn nodes firsts seconds thirds = Any (λ x. GoesOnIn nodes x seconds third
 
 -- ---- triples
 
-abbrev pub first_pair : Triple → Pair
+abbrev pub first_pair : ProgramTriple → Pair
 first_pair t = pair_from t.first t.second
 
-abbrev pub second_pair : Triple → Pair
+abbrev pub second_pair : ProgramTriple → Pair
 second_pair t = pair_from t.second t.third
 
 -- paths of the three programs make a dangerous structure
-abbrev pub ClosesTriple : List Path → Triple → Type 0
+abbrev pub ClosesTriple : List Path → ProgramTriple → Type 0
 ClosesTriple nodes t = Closes nodes t.first t.second t.third
 
 -- the triple closes a structure behind a pair, and its third program has a number below a bound
-abbrev pub ClosesBehind : List Path → Pair → ℕ → Triple → Type 0
+abbrev pub ClosesBehind : List Path → Pair → ℕ → ProgramTriple → Type 0
 ClosesBehind nodes pair bound t = (first_pair t ≡ pair) × (t.third < bound) × ClosesTriple nodes t
 
 -- the triple closes a structure, begins with a program, and its others have numbers below bounds
-abbrev pub ClosesFrom : List Path → ℕ → ℕ → ℕ → Triple → Type 0
+abbrev pub ClosesFrom : List Path → ℕ → ℕ → ℕ → ProgramTriple → Type 0
 ClosesFrom nodes first bound programs t =
     (t.first ≡ first) × (t.second < bound) × (t.third < programs) × ClosesTriple nodes t
 
 -- the new list has what the old one has, and the triples of which P holds
-abbrev pub AddsTriples : (old new : List Triple) → (P : Triple → Type 0) → Type 0
-AddsTriples old new P = (t : Triple) → Contains new t ↔ (Contains old t ⊎ P t)
+abbrev pub AddsTriples : (old new : List ProgramTriple) → (P : ProgramTriple → Type 0) → Type 0
+AddsTriples old new P = (t : ProgramTriple) → Contains new t ↔ (Contains old t ⊎ P t)
 
 -- the list has just the triples of so many programs that close a structure
-abbrev pub AreClosing : List Path → ℕ → List Triple → Type 0
+abbrev pub AreClosing : List Path → ℕ → List ProgramTriple → Type 0
 AreClosing nodes programs triples =
-    (t : Triple)
+    (t : ProgramTriple)
     → Contains triples t
     ↔ ((t.first < programs) × (t.second < programs) × (t.third < programs) × ClosesTriple nodes t)
 
 -- ---- turns
 
 -- neither pair of a triple stands behind this one
-abbrev pub IsAtTurn : Pair → Triple → Type 0
+abbrev pub IsAtTurn : Pair → ProgramTriple → Type 0
 IsAtTurn turn t = (IsPairBefore turn (first_pair t) → ⊥) × (IsPairBefore turn (second_pair t) → ⊥)
 
 -- a triple is left neither of whose pairs stands behind this one
-abbrev pub IsOpenAtTurn : List Triple → Pair → Type 0
+abbrev pub IsOpenAtTurn : List ProgramTriple → Pair → Type 0
 IsOpenAtTurn triples turn = Any (IsAtTurn turn) triples
 
 -- neither pair of a triple is this one
-abbrev pub LacksPair : Pair → Triple → Type 0
+abbrev pub LacksPair : Pair → ProgramTriple → Type 0
 LacksPair pair t = (first_pair t ≡ pair → ⊥) × (second_pair t ≡ pair → ⊥)
 
 -- the triples of a list that lack a pair
-abbrev pub AreWithout : List Triple → Pair → List Triple → Type 0
-AreWithout triples pair rest = (t : Triple) → Contains rest t ↔ (Contains triples t × LacksPair pair t)
+abbrev pub AreWithout : List ProgramTriple → Pair → List ProgramTriple → Type 0
+AreWithout triples pair rest = (t : ProgramTriple) → Contains rest t ↔ (Contains triples t × LacksPair pair t)
 
 -- a pair's turn has been
 abbrev pub IsBeforeTurn : (turn : Pair) → Pair → Type 0
 IsBeforeTurn turn pair = IsPairBefore pair turn
 
 -- neither pair of a triple is in the plan
-abbrev pub IsOutside : List Pair → Triple → Type 0
+abbrev pub IsOutside : List Pair → ProgramTriple → Type 0
 IsOutside plan t = (Contains plan (first_pair t) → ⊥) × (Contains plan (second_pair t) → ⊥)
 
 -- The list is the plan as far as these pairs go, and the triples are those that close a structure without it. Each has a
 -- pair whose turn is still to come.
-pub record IsPartialPlan (nodes : List Path) (plan : List Pair) (triples : List Triple)
+pub record IsPartialPlan (nodes : List Path) (plan : List Pair) (triples : List ProgramTriple)
     (done : Pair → Type 0) : Type 0 where
   pub is_plan : IsPlanFor nodes plan done
-  pub are_left : (t : Triple) → Contains triples t ↔ (ClosesTriple nodes t × IsOutside plan t)
-  pub ahead : (t : Triple) → Contains triples t → done (first_pair t) → done (second_pair t) → ⊥
+  pub are_left : (t : ProgramTriple) → Contains triples t ↔ (ClosesTriple nodes t × IsOutside plan t)
+  pub ahead : (t : ProgramTriple) → Contains triples t → done (first_pair t) → done (second_pair t) → ⊥

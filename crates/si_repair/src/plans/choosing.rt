@@ -5,7 +5,7 @@ ghost use Rattle.repair_laws.specs.Closing.{pair_from, AndThis};
 ghost use Rattle.repair_laws.specs.Plans.{IsPlan};
 ghost use Rattle.si_repair.specs.Planning.{AreClosing, AreOfPrograms, IsBeforeTurn, IsPartialPlan};
 
-use crate::plans::closing::Triple;
+use crate::plans::closing::ProgramTriple;
 use crate::plans::open::{is_open_at, triples_without};
 use repair_laws::Pair;
 use std::alloc::{AllocError, Global};
@@ -14,7 +14,7 @@ use std::alloc::{AllocError, Global};
 #[derive(Drop)]
 pub struct PartialPlan {
     pub plan: Vec<Pair>,
-    pub left: Vec<Triple>,
+    pub left: Vec<ProgramTriple>,
 }
 
 /// Puts a pair into the plan where a structure is left without it.
@@ -53,7 +53,11 @@ fn take_turns(
 }
 
 /// The plan of paths of so many programs, which these triples close.
-pub fn choose(alloc: Global, programs: usize, triples: Vec<Triple>) -> Result<Vec<Pair>, AllocError>
+pub fn choose(
+    alloc: Global,
+    programs: usize,
+    triples: Vec<ProgramTriple>,
+) -> Result<Vec<Pair>, AllocError>
     ensures { IfOk result (λ plan. (nodes : List Path) → AreOfPrograms programs nodes
         → AreClosing nodes programs triples.items → IsPlan nodes plan.items) }
 {

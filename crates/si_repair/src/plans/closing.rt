@@ -11,13 +11,13 @@ use std::alloc::{AllocError, Global};
 
 /// Three programs in a row.
 #[derive(Clone, Copy)]
-pub struct Triple {
+pub struct ProgramTriple {
     pub first: usize,
     pub second: usize,
     pub third: usize,
 }
 
-impl Triple {
+impl ProgramTriple {
     pub fn first_pair(self) -> Pair
         ensures { result ≡ first_pair self }
     {
@@ -42,7 +42,7 @@ fn push_behind(
     graph: &Graph<'_>,
     nodes: &ProgramNodes<'_>,
     pair: Pair,
-    triples: &mut Vec<Triple>,
+    triples: &mut Vec<ProgramTriple>,
 ) -> Result<(), AllocError>
     requires graph { StandsFor graph.now nodes.now.paths }
     requires from { pair.from < nodes.now.programs }
@@ -55,7 +55,7 @@ fn push_behind(
     for third in 0..nodes.programs() {
         let thirds = nodes.of(third);
         if begins_in(graph, firsts, seconds, thirds) {
-            triples.push(Triple {
+            triples.push(ProgramTriple {
                 first: pair.from,
                 second: pair.to,
                 third,
@@ -70,7 +70,7 @@ fn push_from(
     graph: &Graph<'_>,
     nodes: &ProgramNodes<'_>,
     first: usize,
-    triples: &mut Vec<Triple>,
+    triples: &mut Vec<ProgramTriple>,
 ) -> Result<(), AllocError>
     requires graph { StandsFor graph.now nodes.now.paths }
     requires first { first < nodes.now.programs }
@@ -93,7 +93,7 @@ pub fn closing_triples(
     paths: &[Path],
     graph: &Graph<'_>,
     programs: usize,
-) -> Result<Vec<Triple>, AllocError>
+) -> Result<Vec<ProgramTriple>, AllocError>
     requires { StandsFor graph.now paths.now }
     ensures { IfOk result (λ triples. AreClosing paths.now programs triples.items) }
 {

@@ -3,7 +3,7 @@ ghost use Rattle.std.specs.Prelude.{◌≡◌, ◌↔◌, IfOk, IsTrue};
 ghost use Rattle.repair_laws.specs.Striking.{IsPairBefore};
 ghost use Rattle.si_repair.specs.Planning.{IsAtTurn, IsOpenAtTurn, AreWithout};
 
-use crate::plans::closing::Triple;
+use crate::plans::closing::ProgramTriple;
 use repair_laws::Pair;
 use std::alloc::{AllocError, Global};
 
@@ -21,14 +21,14 @@ fn is_same(pair: Pair, other: Pair) -> bool
 }
 
 /// Whether both pairs of a triple stand at this one or before it.
-fn is_at_turn(triple: Triple, turn: Pair) -> bool
+fn is_at_turn(triple: ProgramTriple, turn: Pair) -> bool
     ensures { IsTrue result ↔ IsAtTurn turn triple }
 {
     !is_before(turn, triple.first_pair()) && !is_before(turn, triple.second_pair())
 }
 
 /// Whether a triple is left whose pairs both stand at this one or before it.
-pub fn is_open_at(triples: &[Triple], turn: Pair) -> bool
+pub fn is_open_at(triples: &[ProgramTriple], turn: Pair) -> bool
     ensures { IsTrue result ↔ IsOpenAtTurn triples.now turn }
 {
     triples.iter().any(|triple| is_at_turn(*triple, turn))
@@ -37,9 +37,9 @@ pub fn is_open_at(triples: &[Triple], turn: Pair) -> bool
 /// The triples that don't have the pair.
 pub fn triples_without(
     alloc: Global,
-    triples: &[Triple],
+    triples: &[ProgramTriple],
     pair: Pair,
-) -> Result<Vec<Triple>, AllocError>
+) -> Result<Vec<ProgramTriple>, AllocError>
     ensures { IfOk result (λ left. AreWithout triples.now pair left.items) }
 {
     let mut left = Vec::new(alloc);

@@ -1,11 +1,11 @@
 use Rattle.std.proofs.Common.{sym, ◌∙◌, arith}
 use Rattle.std.proofs.lemmas.Bool.{both_ways}
-use Rattle.si_repair.specs.declared.plans.closing.Triple.{Triple}
+use Rattle.si_repair.specs.declared.plans.closing.ProgramTriple.{ProgramTriple}
 use Rattle.si_repair.proofs.Closings.{without-kept, without-dropped, without-all}
 use Rattle.si_repair.proofs.plans.open.triples_without.Goals as goal
 use Rattle.si_repair.proofs.plans.open.triples_without.Goals.{then-not-is_same+then-not-is_same-2+in_ok-push, else-not-is_same, else-not-is_same-via-then-not-is_same+else-not-is_same-2, else-not-is_same-via-else-not-is_same}
 
-nothing : Triple
+nothing : ProgramTriple
 nothing = record { first = 0; second = 0; third = 0 }
 
 pub loop-triple-preserved : goal.loop-triple-preserved
