@@ -4,7 +4,7 @@ use Rattle.std.proofs.lemmas.Bool.{cases_lt}
 use Rattle.order_facts.specs.Square.{Grid, Joins}
 use Rattle.prog_paths.specs.Listing.{IsAtMost}
 use Rattle.order_facts.specs.Words.{IsNextJoined}
-use Rattle.dep_graph.specs.Triple.{ClosesAt, LeastEnd, LeastPair}
+use Rattle.dep_graph.specs.Triple.{ClosesAt, IsLeastEnd, IsLeastPair}
 
 module _ (P : ℕ → Type 0) (s : Grid) (from start : ℕ) (joined : (n : ℕ) → P n → Joins s from n) (before : (n : ℕ) → n < start → ¬ P n) where
   pub next-is_least : (to : ℕ) → IsNextJoined s from start to → (n : ℕ) → P n → to ≤ n
@@ -47,8 +47,8 @@ two_at_most a b c d l then = go (cases_lt a c)
     go (inl k) = inl k
     go (inr k) = let e : a ≡ c = omega arith in inr (e, last (then e) (cases_lt b d))
 
-pub LeastPair-from_next : (vulnerable reach : Grid) (x start y z : ℕ) → IsNextJoined vulnerable x start y → ((n : ℕ) → n < start → ¬ ClosesBehind vulnerable reach x n) → LeastEnd vulnerable reach x y z → LeastPair vulnerable reach x (record { x = x; y = y; z = z })
-LeastPair-from_next vulnerable reach x start y z next before end = record {
+pub IsLeastPair-from_next : (vulnerable reach : Grid) (x start y z : ℕ) → IsNextJoined vulnerable x start y → ((n : ℕ) → n < start → ¬ ClosesBehind vulnerable reach x n) → IsLeastEnd vulnerable reach x y z → IsLeastPair vulnerable reach x (record { x = x; y = y; z = z })
+IsLeastPair-from_next vulnerable reach x start y z next before end = record {
   behind = refl;
   closes = end.closes;
   least = λ b c closes.

@@ -11,12 +11,12 @@ pub record ClosesAt (vulnerable reach : Grid) (x y z : ℕ) : Type 0 where
   pub back : Joins reach z x
 
 -- the least node that closes a structure behind x and y
-pub record LeastEnd (vulnerable reach : Grid) (x y z : ℕ) : Type 0 where
+pub record IsLeastEnd (vulnerable reach : Grid) (x y z : ℕ) : Type 0 where
   pub closes : ClosesAt vulnerable reach x y z
   pub least : (other : ℕ) → ClosesAt vulnerable reach x y other → z ≤ other
 
 -- the least two nodes that close a structure behind x
-pub record LeastPair (vulnerable reach : Grid) (x : ℕ) (t : Triple) : Type 0 where
+pub record IsLeastPair (vulnerable reach : Grid) (x : ℕ) (t : Triple) : Type 0 where
   pub behind : t.x ≡ x
   pub closes : ClosesAt vulnerable reach t.x t.y t.z
   pub least : (y z : ℕ) → ClosesAt vulnerable reach x y z → IsAtMost (t.y ∷ t.z ∷ []) (y ∷ z ∷ [])

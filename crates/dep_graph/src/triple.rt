@@ -2,7 +2,7 @@
 
 ghost use Rattle.std.specs.Prelude.{◌≡◌, ℕ, ◌<◌, ◌≤◌, IfSome, IfNone};
 ghost use Rattle.order_facts.specs.Square.{Joins};
-ghost use Rattle.dep_graph.specs.Triple.{ClosesAt, LeastEnd, LeastPair, IsLeastTriple};
+ghost use Rattle.dep_graph.specs.Triple.{ClosesAt, IsLeastEnd, IsLeastPair, IsLeastTriple};
 
 use order_facts::Square;
 
@@ -18,7 +18,7 @@ pub struct Triple {
 fn least_end(vulnerable: &Square, reach: &Square, x: usize, y: usize) -> Option<usize>
     requires first { Joins vulnerable.now x y }
     requires size { reach.now.size ≡ vulnerable.now.size }
-    ensures found { IfSome result (λ z. LeastEnd vulnerable.now reach.now x y z) }
+    ensures found { IfSome result (λ z. IsLeastEnd vulnerable.now reach.now x y z) }
     ensures none { IfNone result ((z : ℕ) → ¬ ClosesAt vulnerable.now reach.now x y z) }
 {
     let mut start = 0;
@@ -35,7 +35,7 @@ fn least_end(vulnerable: &Square, reach: &Square, x: usize, y: usize) -> Option<
 fn least_pair(vulnerable: &Square, reach: &Square, x: usize) -> Option<Triple>
     requires x { x < vulnerable.now.size }
     requires size { reach.now.size ≡ vulnerable.now.size }
-    ensures found { IfSome result (λ t. LeastPair vulnerable.now reach.now x t) }
+    ensures found { IfSome result (λ t. IsLeastPair vulnerable.now reach.now x t) }
     ensures none { IfNone result
         ((y : ℕ) (z : ℕ) → ¬ ClosesAt vulnerable.now reach.now x y z) }
 {

@@ -1,8 +1,8 @@
-use Rattle.dep_graph.proofs.Nexts.{ClosesBehind, first-from_behind, next-passed, none-left, LeastPair-from_next}
+use Rattle.dep_graph.proofs.Nexts.{ClosesBehind, first-from_behind, next-passed, none-left, IsLeastPair-from_next}
 use Rattle.dep_graph.proofs.triple.least_pair.Goals as goal
 
 pub returns-in-Some-least_end-clause-found : goal.returns-in-Some-least_end-clause-found
-returns-in-Some-least_end-clause-found c = LeastPair-from_next c.args.vulnerable.now c.args.reach.now c.args.x c.loop-y.start c.in-Some.y c.in-Some-least_end.z c.in-Some.ensures.found c.loop-y.invariant c.in-Some-least_end.ensures.found
+returns-in-Some-least_end-clause-found c = IsLeastPair-from_next c.args.vulnerable.now c.args.reach.now c.args.x c.loop-y.start c.in-Some.y c.in-Some-least_end.z c.in-Some.ensures.found c.loop-y.invariant c.in-Some-least_end.ensures.found
 
 pub loop-y-preserved : goal.loop-y-preserved
 loop-y-preserved c =
