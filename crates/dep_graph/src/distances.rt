@@ -1,20 +1,10 @@
 //! How many steps lie between each node and one of them, found round by round.
 
-ghost use Rattle.std.specs.Prelude.{◌≡◌, ◌↔◌, ◌<◌, length, Option, Some, IfOk, IfSome, IsTrue};
+ghost use Rattle.std.specs.Prelude.{◌≡◌, ◌↔◌, ◌<◌, length, IfOk, IsTrue};
 ghost use Rattle.dep_graph.specs.Distances.{LeadsToKnown, IsNextDistance, AreNextDistances, KnowsWithin};
 
 use order_facts::Square;
 use std::alloc::{AllocError, Global};
-
-/// Whether the distance is known and is so many steps.
-pub fn is_distance(distance: Option<usize>, steps: usize) -> bool
-    ensures { IsTrue result ↔ (distance ≡ Some steps) }
-{
-    match distance {
-        Some(known) => known == steps,
-        None => false,
-    }
-}
 
 /// Whether an edge leads from the node to one of known distance.
 fn leads_to_known(edges: &Square, distances: &[Option<usize>], node: usize) -> bool

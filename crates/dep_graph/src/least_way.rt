@@ -6,7 +6,7 @@ ghost use Rattle.order_facts.specs.Square.{Joins};
 ghost use Rattle.dep_graph.specs.Ways.{IsLeastWay};
 ghost use Rattle.dep_graph.specs.Distances.{distance_at, KnowsWithin, IsLeastNearer, StepsNearer};
 
-use crate::distances::{first_distances, is_distance, next_distances};
+use crate::distances::{first_distances, next_distances};
 use order_facts::Square;
 use std::alloc::{AllocError, Global};
 
@@ -19,7 +19,7 @@ fn nearer_node(edges: &Square, distances: &[Option<usize>], node: usize, steps: 
 {
     let mut start = 0;
     while let Some(next) = edges.next(node, start) {
-        if is_distance(distances[next], steps) {
+        if distances[next] == Some(steps) {
             return next;
         }
         start = next + 1;
