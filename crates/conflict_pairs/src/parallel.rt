@@ -55,11 +55,15 @@ fn parts_of(
         .collect::<Result<Vec<Vec<Verdict>>, AllocError>>(rt, alloc)?
 }
 
-/// The verdicts of all parts, one part after the other.
-fn all_verdicts(alloc: Global, parts: Vec<Vec<Verdict>>) -> Result<Vec<Verdict>, AllocError>
+/// The verdicts of all parts, one part after the other, in a list with room for so many.
+fn all_verdicts(
+    alloc: Global,
+    count: usize,
+    parts: Vec<Vec<Verdict>>,
+) -> Result<Vec<Verdict>, AllocError>
     ensures { IfOk result (λ verdicts. verdicts.items ≡ verdicts_in parts.items) }
 {
-    let mut verdicts = Vec::new(alloc);
+    let mut verdicts = Vec::with_capacity(alloc, count)?;
     for mut part in parts {
         verdicts.append(&mut part)?;
     }
@@ -80,6 +84,6 @@ pub fn pairs_par(
 {
     let questions = questions_of(alloc, paths)?;
     let parts = parts_of(rt, alloc, paths, &questions.places, &questions.judged)?;
-    let verdicts = all_verdicts(alloc, parts)?;
+    let verdicts = all_verdicts(alloc, questions.judged.len(), parts)?;
     Ok(table_of(paths, questions, verdicts))
 }

@@ -4,7 +4,7 @@ use Rattle.conflict_pairs.proofs.Parts.{joined-more, joined-end}
 use Rattle.conflict_pairs.proofs.parallel.all_verdicts.Goals as goal
 
 pub loop-part-init : goal.loop-part-init
-loop-part-init c = rw c.new-verdicts.ensures.items (ap verdicts_in c.into_iter-part-iterator.ensures.into_iter_gives.0)
+loop-part-init c = rw c.in_ok-verdicts.ensures.items (ap verdicts_in c.into_iter-part-iterator.ensures.into_iter_gives.0)
 
 pub loop-part-preserved : goal.loop-part-preserved
 loop-part-preserved c = joined-more c.loop-part.verdicts.items c.append.new.self.items _ _ _ c.in-Some.part c.in-Some.ensures.steps.0 c.in_ok-append.ensures.items c.loop-part.invariant
