@@ -44,7 +44,8 @@ fn covers(closed: &Closed, mine: &Access, theirs: &Access) -> bool
         && is_equal_second(closed, mine.second, theirs.second)
 }
 
-/// The number of the first access that covers with one of the first path.
+/// The number of the first access that covers with one of the first path. None is looked at where
+/// that one may not cover.
 fn first_covering(closed: &Closed, mine: &Access, theirs: &[Access]) -> Option<usize>
     ensures some { IfSome result (λ t. (of_theirs : Access)
         × (slice_get theirs.now t ≡ Some of_theirs) × CoversBy closed.now mine.now of_theirs) }
@@ -53,6 +54,9 @@ fn first_covering(closed: &Closed, mine: &Access, theirs: &[Access]) -> Option<u
     ensures none { IfNone result ((j : ℕ) (of_theirs : Access)
         → slice_get theirs.now j ≡ Some of_theirs → ¬ CoversBy closed.now mine.now of_theirs) }
 {
+    if !may_cover(mine) {
+        return None;
+    }
     theirs
         .iter()
         .position(|of_theirs| covers(closed, mine, of_theirs))
