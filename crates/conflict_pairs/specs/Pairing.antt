@@ -1,5 +1,5 @@
 -- Questions by the numbers of their two accesses among all.
-use Rattle.std.specs.Prelude.{◌≡◌, ℕ, ◌+◌, ◌<◌, List, length, map, slice_index_or, slice_get, None, Some, false}
+use Rattle.std.specs.Prelude.{◌≡◌, ℕ, ◌+◌, ◌<◌, List, length, map, All, slice_index_or, slice_get, None, Some, false}
 use Rattle.std.specs.List.{AllZip}
 use Rattle.prog_check.specs.declared.path.Kind.TheVariants.{Reads}
 use Rattle.prog_check.specs.declared.path.Path.{Path}
@@ -7,9 +7,10 @@ use Rattle.prog_check.specs.declared.path.Term.TheVariants.{Param}
 use Rattle.prog_paths.specs.declared.accesses.places.Placed.{Placed}
 use Rattle.prog_paths.specs.declared.accesses.places.Question.{Question as Asked}
 use Rattle.prog_paths.specs.Asked.{all_from, question_between}
+use Rattle.conflict_pairs.specs.declared.listing.Questions.{Questions}
 use Rattle.conflict_pairs.specs.declared.pairing.PlacePair.{PlacePair}
 use Rattle.conflict_pairs.specs.declared.verdicts.Verdict.{Verdict}
-use Rattle.conflict_pairs.specs.Alike.{IsAsked, IsJudgedAt}
+use Rattle.conflict_pairs.specs.Alike.{AreListed, IsAsked, IsJudgedAt}
 
 -- stands for an access where there is none
 abbrev pub no_place : Placed
@@ -63,3 +64,10 @@ IsAskedAt paths = IsAskedBetween paths (all_from 0 paths)
 -- these verdicts are on the questions of these pairs, one each
 abbrev pub ArePairsJudged : List Path → List Placed → List PlacePair → List Verdict → Type 0
 ArePairsJudged paths places = AllZip (λ pair. IsJudgedAt paths (question_at places pair))
+
+-- all questions of the paths by the numbers of their accesses, and which of them are judged
+pub record AreQuestionsOf (paths : List Path) (qs : Questions) : Type 0 where
+  pub listed : AreListed paths (questions_at qs.places.items qs.pairs.items)
+      (questions_at qs.places.items qs.judged.items) qs.numbers.items
+  pub within : All (HasPlaces qs.places.items) qs.pairs.items
+  pub asked : All (IsAskedBetween paths qs.places.items) qs.judged.items

@@ -3,9 +3,8 @@ ghost use Rattle.std.specs.Prelude.{◌≡◌, ◌↔◌, ◌++◌, ◌+◌, ◌
 ghost use Rattle.conflict_pairs.specs.declared.fault.PairFault as PairFault;
 ghost use Rattle.prog_paths.specs.Asked.{ChangesSingleCells, all_from, asked_by, asked_among, questions_of};
 ghost use Rattle.prog_paths.specs.Limits.{most_questions};
-ghost use Rattle.conflict_pairs.specs.Alike.{AreListed};
 ghost use Rattle.conflict_pairs.specs.Classes.{starts_from};
-ghost use Rattle.conflict_pairs.specs.Pairing.{ArePairsJudged, HasPlaces, IsAskedBetween, StandsAt, place_at, questions_at};
+ghost use Rattle.conflict_pairs.specs.Pairing.{ArePairsJudged, AreQuestionsOf, HasPlaces, StandsAt, place_at, questions_at};
 ghost use Rattle.conflict_pairs.specs.Table.{StandsFor};
 
 use crate::classes::AccessClasses;
@@ -97,12 +96,7 @@ pub struct Questions {
 
 /// The questions of a list of paths. They are counted before any memory is taken.
 pub fn questions_of(alloc: Global, paths: &[Path]) -> Result<Questions, PairFault>
-    ensures listed { IfOk result (λ qs. AreListed paths.now
-        (questions_at qs.places.items qs.pairs.items)
-        (questions_at qs.places.items qs.judged.items) qs.numbers.items) }
-    ensures within { IfOk result (λ qs. All (HasPlaces qs.places.items) qs.pairs.items) }
-    ensures asked { IfOk result (λ qs.
-        All (IsAskedBetween paths.now qs.places.items) qs.judged.items) }
+    ensures listed { IfOk result (AreQuestionsOf paths.now) }
     ensures few { OnOk result (length (questions_of paths.now) ≤ most_questions) }
     ensures too_large { (result ≡ Err PairFault.TooLarge)
         ↔ (most_questions < length (questions_of paths.now)) }
@@ -130,10 +124,7 @@ pub fn questions_of(alloc: Global, paths: &[Path]) -> Result<Questions, PairFaul
 /// The table of questions, by the verdicts on those that are judged.
 pub fn table_of(paths: &[Path], questions: Questions, verdicts: Vec<Verdict>) -> PairTable
     requires single { All ChangesSingleCells paths.now }
-    requires listed { AreListed paths.now
-        (questions_at questions.places.items questions.pairs.items)
-        (questions_at questions.places.items questions.judged.items) questions.numbers.items }
-    requires within { All (HasPlaces questions.places.items) questions.pairs.items }
+    requires listed { AreQuestionsOf paths.now questions }
     requires judged { ArePairsJudged paths.now questions.places.items questions.judged.items
         verdicts.items }
     ensures { StandsFor result paths.now }

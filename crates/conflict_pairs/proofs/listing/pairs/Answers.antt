@@ -11,7 +11,10 @@ verdicts_of-requires c =
     let paths = c.args.paths.now in
     let questions = c.in_ok-questions.questions in
     subst (λ (l : List PlacePair). All (IsAskedBetween paths c.deref.result.now) l) (sym c.deref-2.ensures.value)
-    (subst (λ (l : List Placed). All (IsAskedBetween paths l) questions.judged.items) (sym c.deref.ensures.value) c.in_ok-questions.ensures.asked)
+    (subst (λ (l : List Placed). All (IsAskedBetween paths l) questions.judged.items) (sym c.deref.ensures.value) c.in_ok-questions.ensures.listed.asked)
+
+pub table_of-requires-clause-listed : goal.table_of-requires-clause-listed
+table_of-requires-clause-listed c = c.in_ok-questions.ensures.listed
 
 pub table_of-requires-clause-judged : goal.table_of-requires-clause-judged
 table_of-requires-clause-judged c =

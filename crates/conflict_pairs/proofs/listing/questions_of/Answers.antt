@@ -41,18 +41,14 @@ returns-clause-listed c =
     let interned =
     subst (λ (l : List Path). AreInterned (IsAskedAt l) (λ p v. IsLike l (asked_at l p) (asked_at l v)) pairs values numbers) c.in_ok-classes.ensures
     (subst (λ (l : List PlacePair). AreInterned (IsAskedAt c.in_ok-classes.classes) (λ p v. IsLike c.in_ok-classes.classes (asked_at c.in_ok-classes.classes p) (asked_at c.in_ok-classes.classes v)) l values numbers) c.deref-4.ensures.value c.in_ok-values.ensures) in
-    record {
-      all = (λ i. questions_at (sym c.deref.ensures.value i) pairs) ∙ c.in_ok-pairs.ensures.questions ∙ (λ i. asked_among (places i) (places i));
-      shown =
-          subst (λ (l : List Placed). AreShown paths (questions_at l pairs) (questions_at l values) numbers) (sym c.in_ok-places.ensures)
-          (shown-pairs paths pairs values numbers interned);
-    }
-
-pub returns-clause-within : goal.returns-clause-within
-returns-clause-within c = subst (λ (l : List Placed). All (HasPlaces l) c.in_ok-pairs.pairs.items) c.deref.ensures.value c.in_ok-pairs.ensures.within
-
-pub returns-clause-asked : goal.returns-clause-asked
-returns-clause-asked c =
-    let values = c.in_ok-values.field-0.values.items in
     let sound = subst (λ (l : List Path). All (IsAskedAt l) values) c.in_ok-classes.ensures c.in_ok-values.ensures.sound in
-    subst (λ (l : List Placed). All (IsAskedBetween c.args.paths.now l) values) (sym c.in_ok-places.ensures) sound
+    record {
+      listed = record {
+        all = (λ i. questions_at (sym c.deref.ensures.value i) pairs) ∙ c.in_ok-pairs.ensures.questions ∙ (λ i. asked_among (places i) (places i));
+        shown =
+            subst (λ (l : List Placed). AreShown paths (questions_at l pairs) (questions_at l values) numbers) (sym c.in_ok-places.ensures)
+            (shown-pairs paths pairs values numbers interned);
+      };
+      within = subst (λ (l : List Placed). All (HasPlaces l) c.in_ok-pairs.pairs.items) c.deref.ensures.value c.in_ok-pairs.ensures.within;
+      asked = subst (λ (l : List Placed). All (IsAskedBetween c.args.paths.now l) values) (sym c.in_ok-places.ensures) sound;
+    }

@@ -16,7 +16,10 @@ of-requires-clause-one_each c =
     let all = questions_at questions.places.items questions.pairs.items in
     let judged = questions_at questions.places.items questions.judged.items in
     sym (length-map questions.pairs.items (question_at questions.places.items))
-    ∙ AllZip-lengths (IsServed (IsLike c.args.paths.now) judged) all questions.numbers.items c.requires.listed.shown.served
+    ∙ AllZip-lengths (IsServed (IsLike c.args.paths.now) judged) all questions.numbers.items c.requires.listed.listed.shown.served
+
+pub of-requires-clause-placed : goal.of-requires-clause-placed
+of-requires-clause-placed c = c.requires.listed.within
 
 pub of-requires-clause-within : goal.of-requires-clause-within
 of-requires-clause-within c =
@@ -24,7 +27,7 @@ of-requires-clause-within c =
     let questions = c.args.questions in
     let places = questions.places.items in
     let verdicts = c.args.verdicts.items in
-    let shown = c.requires.listed.shown in
+    let shown = c.requires.listed.listed.shown in
     numbers-within paths (questions_at places questions.judged.items) verdicts shown.sound
     (AllZip-map (question_at places) (IsJudgedAt paths) questions.judged.items verdicts c.requires.judged)
     (questions_at places questions.pairs.items) questions.numbers.items shown.served
@@ -35,7 +38,7 @@ returns c =
     let questions = c.args.questions in
     let places = questions.places.items in
     let verdicts = c.args.verdicts.items in
-    let listed = c.requires.listed in
+    let listed = c.requires.listed.listed in
     StandsFor-from paths (questions_at places questions.judged.items) verdicts listed.shown.sound
     (AllZip-map (question_at places) (IsJudgedAt paths) questions.judged.items verdicts c.requires.judged)
     c.requires.single c.of.result (questions_at places questions.pairs.items) questions.numbers.items

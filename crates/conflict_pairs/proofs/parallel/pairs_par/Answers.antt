@@ -14,8 +14,11 @@ parts_of-requires g c =
     let questions = c.in_ok-questions.questions in
     let asked =
     subst (λ (l : List PlacePair). All (IsAskedBetween paths c.deref.result.now) l) (sym c.deref-2.ensures.value)
-    (subst (λ (l : List Placed). All (IsAskedBetween paths l) questions.judged.items) (sym c.deref.ensures.value) c.in_ok-questions.ensures.asked) in
+    (subst (λ (l : List Placed). All (IsAskedBetween paths l) questions.judged.items) (sym c.deref.ensures.value) c.in_ok-questions.ensures.listed.asked) in
     (c.type_bounds.sync-typeof-rt, asked)
+
+pub table_of-requires-clause-listed : goal.table_of-requires-clause-listed
+table_of-requires-clause-listed g c = c.in_ok-questions.ensures.listed
 
 pub table_of-requires-clause-judged : goal.table_of-requires-clause-judged
 table_of-requires-clause-judged g c =
