@@ -130,7 +130,7 @@ pub fn verdict(alloc: Global, x: &Path, a: usize, y: &Path, b: usize) -> Result<
 }
 
 /// Whether the closed facts of two accesses can be met, and nothing in their lists covers.
-fn open_closed(
+fn is_left_open_by_closed(
     alloc: Global,
     xs: &[Access],
     ys: &[Access],
@@ -150,7 +150,7 @@ fn open_closed(
 }
 
 /// The same, at once where two of its numbers fall.
-fn is_left_open(
+fn is_left_open_by_facts(
     alloc: Global,
     xs: &[Access],
     ys: &[Access],
@@ -163,7 +163,7 @@ fn is_left_open(
 {
     match number_fall(mine, theirs) {
         Some(_) => Ok(false),
-        None => open_closed(alloc, xs, ys, mine, theirs),
+        None => is_left_open_by_closed(alloc, xs, ys, mine, theirs),
     }
 }
 
@@ -186,7 +186,7 @@ pub fn is_exposed_question(
 {
     let xs = x.accesses.as_slice();
     let ys = y.accesses.as_slice();
-    is_left_open(alloc, xs, ys, &xs[a], &ys[b])
+    is_left_open_by_facts(alloc, xs, ys, &xs[a], &ys[b])
 }
 
 /// What the facts say of a question of the paths.

@@ -1,7 +1,7 @@
 use Rattle.std.proofs.Common.{refl, sym, ◌∙◌}
 use Rattle.std.proofs.lemmas.Bool.{false≢true}
 use Rattle.conflict_pairs.proofs.Meaning.{open-met, open-uncovered, covered-not_open}
-use Rattle.conflict_pairs.proofs.judge.open_closed.Goals as goal
+use Rattle.conflict_pairs.proofs.judge.is_left_open_by_closed.Goals as goal
 
 pub returns-then-not-consistent : goal.returns-then-not-consistent
 returns-then-not-consistent c =
