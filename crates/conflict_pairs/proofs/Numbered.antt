@@ -13,7 +13,7 @@ use Rattle.conflict_pairs.specs.declared.verdicts.Verdict.{Verdict}
 use Rattle.conflict_pairs.specs.declared.verdicts.Verdict.TheVariants.{Apart}
 use Rattle.conflict_pairs.specs.Table.{Entry, Table, verdict_at, entry_by, entries_of, IsOnQuestion, IsRightEntry, StandsFor}
 use Rattle.conflict_pairs.specs.Interning.{IsServed}
-use Rattle.conflict_pairs.specs.Alike.{IsAsked, IsLike, IsJudgedAt, AreJudged}
+use Rattle.conflict_pairs.specs.Alike.{IsAsked, IsLike, IsJudgedAt}
 use Rattle.conflict_pairs.proofs.Serving.{served-within}
 use Rattle.conflict_pairs.proofs.Zipped.{AllZip-at, AllZip-lengths}
 use Rattle.conflict_pairs.proofs.Likeness.{judged-like, right-judged}
@@ -74,7 +74,7 @@ IsAskedOf-from_asked paths q h =
     (record { mine = h.first.access; theirs = h.second.access; asked = record { at_mine = h.at_first; at_theirs = h.at_second; table = k.0 }; mine_kind = refl; their_kind = refl; asks = k.1 })
 
 -- each verdict is on the question that was judged
-pub verdicts-right : (paths : List Path) → All ChangesSingleCells paths → (judged : List Asked) (vs : List Verdict) → All (IsAsked paths) judged → AreJudged paths judged vs → All (IsOnQuestion paths) vs
+pub verdicts-right : (paths : List Path) → All ChangesSingleCells paths → (judged : List Asked) (vs : List Verdict) → All (IsAsked paths) judged → AllZip (IsJudgedAt paths) judged vs → All (IsOnQuestion paths) vs
 verdicts-right paths single [] [] h k = All-nil (IsOnQuestion paths)
 verdicts-right paths single [] (v ∷ vs) h k = absurd k
 verdicts-right paths single (q ∷ qs) [] h k = absurd k
@@ -86,7 +86,7 @@ verdicts-right paths single (q ∷ qs) (v ∷ vs) h k =
 
 -- ---- right entries
 
-module _ (paths : List Path) (judged : List Asked) (vs : List Verdict) (asked : All (IsAsked paths) judged) (answered : AreJudged paths judged vs) where
+module _ (paths : List Path) (judged : List Asked) (vs : List Verdict) (asked : All (IsAsked paths) judged) (answered : AllZip (IsJudgedAt paths) judged vs) where
   -- the verdict on the question that stands for another says what the facts say of this one
   stands-judged : (q : Asked) (n : ℕ) → IsServed (IsLike paths) judged q n → IsJudgedAt paths q (verdict_at vs n)
   stands-judged q n h =

@@ -1,7 +1,6 @@
 -- When one verdict serves two questions: their accesses are equal but for their places, and so are the covers of their
 -- paths.
 use Rattle.std.specs.Prelude.{◌≡◌, ℕ, ◌<◌, List, [], length, Option, Some, None, slice_get, slice_index_or, true}
-use Rattle.std.specs.List.{AllZip}
 use Rattle.prog_check.specs.declared.path.Access.{Access}
 use Rattle.prog_check.specs.declared.path.Path.{Path}
 use Rattle.prog_paths.specs.declared.accesses.places.Placed.{Placed}
@@ -89,7 +88,3 @@ abbrev pub IsJudgedAt : List Path → Asked → Verdict → Type 0
 IsJudgedAt paths q verdict =
     (mine theirs : Access) → IsAccessOf paths q.x q.a mine → IsAccessOf paths q.y q.b theirs
     → IsJudged (accesses_at paths q.x) (accesses_at paths q.y) mine theirs verdict
-
--- these verdicts are on these questions, one each
-abbrev pub AreJudged : List Path → List Asked → List Verdict → Type 0
-AreJudged paths = AllZip (IsJudgedAt paths)
