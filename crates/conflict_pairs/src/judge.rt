@@ -91,8 +91,7 @@ fn verdict_by_closed(
             chains,
         });
     }
-    let verdict = uncovered_verdict(&closed, mine, theirs)?;
-    Ok(verdict)
+    uncovered_verdict(&closed, mine, theirs)
 }
 
 /// What the facts say of the question of two accesses of two paths, at once where two of its

@@ -18,6 +18,5 @@ pub fn point_at(
         ≡ pointed_out text.now place (map visible sentence.now)) }
 {
     let shown = visible_text(alloc, sentence.as_bytes())?;
-    let words = point_out(alloc, text, place, &shown)?;
-    Ok(words)
+    point_out(alloc, text, place, &shown)
 }

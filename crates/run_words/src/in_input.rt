@@ -57,6 +57,5 @@ pub fn point_in_part(
     let line = input_line_text(alloc, part, place)?;
     let shown = visible_text(alloc, sentence.as_bytes())?;
     let sentence = format!(in alloc; "{shown}{line}")?;
-    let words = point_out(alloc, part.bytes, place, &sentence)?;
-    Ok(words)
+    point_out(alloc, part.bytes, place, &sentence)
 }

@@ -98,8 +98,7 @@ fn job_line(
 {
     let text = job_text(alloc, part, number, spot)?;
     let shown = visible_text(alloc, sentence.as_bytes())?;
-    let line = format!(in alloc; "  {text}: {shown}\n")?;
-    Ok(line)
+    format!(in alloc; "  {text}: {shown}\n")
 }
 
 // Adds the lines of jobs.

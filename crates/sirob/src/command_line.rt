@@ -136,8 +136,7 @@ fn command<'a>(alloc: Global) -> Result<Command<'a>, AllocError>
     let with_audit = add(with_run, audit)?;
     let workers = byte_option(alloc, "workers", "2", WORKERS);
     let work = taking(alloc, "work", WORK, workers)?;
-    let with_work = add(with_audit, work)?;
-    Ok(with_work)
+    add(with_audit, work)
 }
 
 /// What the words ask for. The first is the program's name.

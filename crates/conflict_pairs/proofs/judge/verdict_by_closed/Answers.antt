@@ -1,4 +1,5 @@
 use Rattle.std.proofs.Common.{All, List, subst}
+use Rattle.std.proofs.lemmas.Result.{IfOk-weaker}
 use Rattle.order_facts.specs.declared.steps.Fact.{Fact}
 use Rattle.conflict_pairs.specs.Search.{IsCoverFound, ShowEqualAt}
 use Rattle.conflict_pairs.specs.Verdicts.{IsShortest}
@@ -16,5 +17,5 @@ returns-in-Some c =
 
 pub returns : goal.returns
 returns c =
-    IsJudged-from_uncovered c.args.xs.now c.args.ys.now c.args.mine.now c.args.theirs.now c.in_ok-closed.closed c.in_ok-verdict.verdict
-    c.in_ok-closed.ensures c.in_ok-verdict.ensures c.in_default.ensures.none
+    IfOk-weaker c.uncovered_verdict.result _ _ (λ verdict is. IsJudged-from_uncovered c.args.xs.now c.args.ys.now c.args.mine.now c.args.theirs.now c.in_ok-closed.closed verdict
+    c.in_ok-closed.ensures is c.in_default.ensures.none) c.uncovered_verdict.ensures
