@@ -11,7 +11,7 @@ use Rattle.prog_paths.specs.Listing.{IsAskedOf}
 use Rattle.prog_paths.proofs.Membership.{Asks-from_asks}
 use Rattle.conflict_pairs.specs.declared.verdicts.Verdict.{Verdict}
 use Rattle.conflict_pairs.specs.declared.verdicts.Verdict.TheVariants.{Apart}
-use Rattle.conflict_pairs.specs.Table.{Entry, Table, verdict_at, entry_by, entries_of, IsOnQuestion, IsRightEntry, StandsFor}
+use Rattle.conflict_pairs.specs.Table.{Judged, Table, verdict_at, entry_by, entries_of, IsOnQuestion, IsRightEntry, StandsFor}
 use Rattle.conflict_pairs.specs.Interning.{IsServed}
 use Rattle.conflict_pairs.specs.Alike.{IsAsked, IsLike, IsJudgedAt}
 use Rattle.conflict_pairs.proofs.Serving.{served-within}
@@ -28,7 +28,7 @@ module _ (vs : List Verdict) where
   entries-length (q ∷ qs) [] e = let no : ⊥ = omega (arith, e) in absurd no
   entries-length (q ∷ qs) (n ∷ ns) e = ap suc (entries-length qs ns (omega (arith, e)))
 
-  pub entries-questions : (qs : List Asked) (ns : List ℕ) → length qs ≡ length ns → map (λ (e : Entry). e.question) (entries_of vs qs ns) ≡ qs
+  pub entries-questions : (qs : List Asked) (ns : List ℕ) → length qs ≡ length ns → map (λ (e : Judged). e.question) (entries_of vs qs ns) ≡ qs
   entries-questions [] ns e = refl
   entries-questions (q ∷ qs) [] e = let no : ⊥ = omega (arith, e) in absurd no
   entries-questions (q ∷ qs) (n ∷ ns) e = ap (λ (l : List Asked). q ∷ l) (entries-questions qs ns (omega (arith, e)))
@@ -41,7 +41,7 @@ module _ (vs : List Verdict) where
   )
 
   -- the entry of a number
-  pub entries-at : (qs : List Asked) (ns : List ℕ) (k : ℕ) (q : Asked) (n : ℕ) (e : Entry) → slice_get (entries_of vs qs ns) k ≡ Some e → e ≡ entry_by vs (get_or qs k q) (get_or ns k n)
+  pub entries-at : (qs : List Asked) (ns : List ℕ) (k : ℕ) (q : Asked) (n : ℕ) (e : Judged) → slice_get (entries_of vs qs ns) k ≡ Some e → e ≡ entry_by vs (get_or qs k q) (get_or ns k n)
   entries-at [] ns k q n e at = absurd (no-entry k at)
     where
       no-entry : (k : ℕ) → slice_get (entries_of vs [] ns) k ≡ Some e → ⊥
@@ -58,12 +58,12 @@ module _ (vs : List Verdict) where
   number-within qs ns k e lt = subst (λ (l : ℕ). k < l) (entries-length qs ns e ∙ e) lt
 
   -- and at this number its verdict stands
-  pub number-verdict : (qs : List Asked) (ns : List ℕ) (k n : ℕ) (e : Entry) → length qs ≡ length ns → All (λ n. n < length vs) ns → n ≡ get_or ns k n → slice_get (entries_of vs qs ns) k ≡ Some e → slice_get vs n ≡ Some e.verdict
+  pub number-verdict : (qs : List Asked) (ns : List ℕ) (k n : ℕ) (e : Judged) → length qs ≡ length ns → All (λ n. n < length vs) ns → n ≡ get_or ns k n → slice_get (entries_of vs qs ns) k ≡ Some e → slice_get vs n ≡ Some e.verdict
   number-verdict qs ns k n e one_each within is at =
       let lt = subst (λ (m : ℕ). m < length vs) (sym is) (within k n (number-within qs ns k one_each (slice_get_within (entries_of vs qs ns) k e at))) in
       slice_get-get_or vs n (Apart []) lt
       ∙ ap (λ (m : ℕ). Some (verdict_at vs m)) is
-      ∙ ap (λ (x : Entry). Some x.verdict) (sym (entries-at qs ns k e.question n e at))
+      ∙ ap (λ (x : Judged). Some x.verdict) (sym (entries-at qs ns k e.question n e at))
 
 -- ---- right verdicts
 
@@ -104,10 +104,10 @@ module _ (paths : List Path) (judged : List Asked) (vs : List Verdict) (asked : 
       (numbers-within qs ns h.1)
 
   pub entries-right : All ChangesSingleCells paths → (qs : List Asked) (ns : List ℕ) → All (IsAsked paths) qs → AllZip (IsServed (IsLike paths) judged) qs ns → All (λ e. IsRightEntry paths e) (entries_of vs qs ns)
-  entries-right single [] ns h k = All-nil (λ (e : Entry). IsRightEntry paths e)
+  entries-right single [] ns h k = All-nil (λ (e : Judged). IsRightEntry paths e)
   entries-right single (q ∷ qs) [] h k = absurd k
   entries-right single (q ∷ qs) (n ∷ ns) h k =
-      All-cons (λ (e : Entry). IsRightEntry paths e) (entry_by vs q n) (entries_of vs qs ns)
+      All-cons (λ (e : Judged). IsRightEntry paths e) (entry_by vs q n) (entries_of vs qs ns)
       (right-judged paths q single (All-head (IsAsked paths) q qs h) (verdict_at vs n) (stands-judged q n k.0))
       (entries-right single qs ns (All-tail (IsAsked paths) q qs h) k.1)
 
@@ -115,7 +115,7 @@ module _ (paths : List Path) (judged : List Asked) (vs : List Verdict) (asked : 
   pub StandsFor-from : All ChangesSingleCells paths → (table : Table) (qs : List Asked) (ns : List ℕ) → All (IsAsked paths) qs → AllZip (IsServed (IsLike paths) judged) qs ns → table.nodes ≡ length paths → table.verdicts ≡ vs → table.entries ≡ entries_of vs qs ns → qs ≡ questions_of paths → StandsFor table paths
   StandsFor-from single table qs ns h k nodes verdicts entries all = record {
     nodes = nodes;
-    questions = ap (map (λ (e : Entry). e.question)) entries ∙ entries-questions vs qs ns (AllZip-lengths (IsServed (IsLike paths) judged) qs ns k) ∙ all;
-    right = subst (λ (l : List Entry). All (λ e. IsRightEntry paths e) l) (sym entries) (entries-right single qs ns h k);
+    questions = ap (map (λ (e : Judged). e.question)) entries ∙ entries-questions vs qs ns (AllZip-lengths (IsServed (IsLike paths) judged) qs ns k) ∙ all;
+    right = subst (λ (l : List Judged). All (λ e. IsRightEntry paths e) l) (sym entries) (entries-right single qs ns h k);
     verdicts = subst (λ (l : List Verdict). All (IsOnQuestion paths) l) (sym verdicts) (verdicts-right paths single judged vs asked answered);
   }

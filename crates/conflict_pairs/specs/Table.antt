@@ -12,7 +12,7 @@ use Rattle.prog_paths.specs.Listing.{IsAskedOf}
 use Rattle.conflict_pairs.specs.Verdicts.{IsRight}
 
 -- a question and its verdict
-pub record Entry : Type 0 where
+pub record Judged : Type 0 where
   pub question : Asked
   pub verdict : Verdict
 
@@ -20,7 +20,7 @@ pub record Entry : Type 0 where
 pub record Table : Type 0 where
   pub nodes : ℕ
   pub verdicts : List Verdict
-  pub entries : List Entry
+  pub entries : List Judged
 
 -- the verdicts of parts, one part after the other
 abbrev pub verdicts_in : List (Vec Verdict Global) → List Verdict
@@ -31,17 +31,17 @@ abbrev pub verdict_at : List Verdict → ℕ → Verdict
 verdict_at verdicts n = slice_index_or verdicts n (Apart [])
 
 -- a question with the verdict of a number
-abbrev pub entry_by : List Verdict → Asked → ℕ → Entry
+abbrev pub entry_by : List Verdict → Asked → ℕ → Judged
 entry_by verdicts q n = record { question = q; verdict = verdict_at verdicts n }
 
 -- each question with the verdict of its number
-abbrev pub entries_of : List Verdict → List Asked → List ℕ → List Entry
+abbrev pub entries_of : List Verdict → List Asked → List ℕ → List Judged
 entries_of verdicts [] numbers = []
 entries_of verdicts (q ∷ qs) [] = []
 entries_of verdicts (q ∷ qs) (n ∷ numbers) = entry_by verdicts q n ∷ entries_of verdicts qs numbers
 
 -- an entry's verdict is right
-abbrev pub IsRightEntry : List Path → Entry → Type 0
+abbrev pub IsRightEntry : List Path → Judged → Type 0
 IsRightEntry paths e = IsRight paths (numbers_of e.question) e.verdict
 
 -- a verdict is right of some question of the paths

@@ -1,7 +1,7 @@
 //! The table of all questions with their verdicts.
 ghost use Rattle.std.specs.Prelude.{◌≡◌, ◌<◌, ◌↔◌, [], IsTrue, All, Some, length, slice_get};
 ghost use Rattle.conflict_pairs.specs.Pairing.{HasPlaces, questions_at};
-ghost use Rattle.conflict_pairs.specs.Table.{Entry, entries_of};
+ghost use Rattle.conflict_pairs.specs.Table.{Judged, entries_of};
 
 use crate::pairing::{PlacePair, question_of};
 use crate::verdicts::Verdict;
@@ -91,7 +91,7 @@ impl PairTable {
     #[inline]
     pub fn question(&self, n: usize) -> Question
         requires { n < length self.now.entries }
-        ensures { (e : Entry) → slice_get self.now.entries n ≡ Some e → result ≡ e.question }
+        ensures { (e : Judged) → slice_get self.now.entries n ≡ Some e → result ≡ e.question }
     {
         question_of(&self.places, self.pairs[n])
     }
@@ -108,7 +108,7 @@ impl PairTable {
     pub fn verdict_number(&self, n: usize) -> usize
         requires { n < length self.now.entries }
         ensures within { result < length self.now.verdicts }
-        ensures verdict { (e : Entry) → slice_get self.now.entries n ≡ Some e
+        ensures verdict { (e : Judged) → slice_get self.now.entries n ≡ Some e
             → slice_get self.now.verdicts result ≡ Some e.verdict }
     {
         self.numbers[n] as usize
@@ -118,7 +118,7 @@ impl PairTable {
     #[inline]
     pub fn verdict(&self, n: usize) -> &Verdict
         requires { n < length self.now.entries }
-        ensures { (e : Entry) → slice_get self.now.entries n ≡ Some e → result.now ≡ e.verdict }
+        ensures { (e : Judged) → slice_get self.now.entries n ≡ Some e → result.now ≡ e.verdict }
     {
         &self.verdicts[self.verdict_number(n)]
     }

@@ -3,12 +3,12 @@ use Rattle.std.proofs.Common.{◌≡◌, ℕ, ◌<◌, ◌≤◌, ◌⊎◌, Lis
 use Rattle.std.specs.Prelude.{slice_get}
 use Rattle.prog_check.specs.declared.path.Path.{Path}
 use Rattle.prog_paths.specs.StaticGraph.{AsksReadWrite, HasQuestion, IsExposed}
-use Rattle.conflict_pairs.specs.Table.{Entry, Table}
+use Rattle.conflict_pairs.specs.Table.{Judged, Table}
 use Rattle.prog_paths.specs.Asked.{numbers_of}
 
 -- the question at a place of the table makes the edge from x to y vulnerable
 pub record IsExposedAt (paths : List Path) (t : Table) (x y n : ℕ) : Type 0 where
-  pub entry : Entry
+  pub entry : Judged
   pub at : slice_get t.entries n ≡ Some entry
   pub exposed : HasQuestion AsksReadWrite (IsExposed paths) paths x y
   pub is : exposed.question ≡ numbers_of entry.question

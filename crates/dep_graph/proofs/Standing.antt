@@ -23,7 +23,7 @@ use Rattle.prog_paths.proofs.Order.{law_of_order, rise-between}
 use Rattle.conflict_pairs.specs.declared.verdicts.Verdict.{Verdict}
 use Rattle.conflict_pairs.specs.declared.verdicts.Verdict.TheVariants.{Apart, Covered, Exposed}
 use Rattle.conflict_pairs.specs.Verdicts.{mine_of, theirs_of, IsRightOf, IsRight, IsExposedBy, can_meet, is_exposed}
-use Rattle.conflict_pairs.specs.Table.{Entry, Table, IsRightEntry, StandsFor}
+use Rattle.conflict_pairs.specs.Table.{Judged, Table, IsRightEntry, StandsFor}
 use Rattle.dep_graph.specs.declared.danger.Exposure.{Exposure}
 use Rattle.dep_graph.specs.Marks.{mark_at, HasVulnerable, IsFirstVulnerable, mark_of, marks_of}
 use Rattle.dep_graph.specs.Danger.{IsFirstExposure, IsLeastExposed}
@@ -57,28 +57,28 @@ module _ (paths : List Path) (q : Question) (mine theirs : Access) where
 
 -- ---- some entry
 
-abbrev question_in : Entry → Asked
+abbrev question_in : Judged → Asked
 question_in e = e.question
 
 abbrev Meets : Question → Access → Access → Type 0
 Meets q mine theirs = CanMeet mine theirs
 
-any_entry : (p : Mark → Bool) (entries : List Entry) → list_any p (map mark_of entries) ≡ true → (e : Entry) × Contains entries e × (p (mark_of e) ≡ true)
+any_entry : (p : Mark → Bool) (entries : List Judged) → list_any p (map mark_of entries) ≡ true → (e : Judged) × Contains entries e × (p (mark_of e) ≡ true)
 any_entry p entries h =
     let m = any_in p (map mark_of entries) h in
     let e = from_mapped mark_of entries m.0 m.1 in
     (e.0, e.1, ap p e.2 ∙ m.2)
 
 module _ (t : Table) (paths : List Path) (s : StandsFor t paths) where
-  asked_of : (e : Entry) → Contains t.entries e → IsAskedOf paths e.question
+  asked_of : (e : Judged) → Contains t.entries e → IsAskedOf paths e.question
   asked_of e i = (law_of_listing paths e.question).0 (subst (λ (qs : List Asked). Contains qs e.question) s.questions (contains_mapped question_in t.entries e i))
 
-  right_of : (e : Entry) → Contains t.entries e → IsRightEntry paths e
+  right_of : (e : Judged) → Contains t.entries e → IsRightEntry paths e
   right_of e i = All-contains (λ e. IsRightEntry paths e) t.entries e s.right i
 
   -- an entry of a question of the paths, which is right of it
   record IsFound (q : Asked) : Type 0 where
-    entry : Entry
+    entry : Judged
     is_in : Contains t.entries entry
     is : entry.question ≡ q
     right : IsRight paths (numbers_of q) entry.verdict
@@ -86,25 +86,25 @@ module _ (t : Table) (paths : List Path) (s : StandsFor t paths) where
   found : (q : Asked) → IsAskedOf paths q → IsFound q
   found q a = made f.0 f.1 f.2
     where
-      f : (e : Entry) × Contains t.entries e × (e.question ≡ q)
+      f : (e : Judged) × Contains t.entries e × (e.question ≡ q)
       f = from_mapped question_in t.entries q (subst (λ (qs : List Asked). Contains qs q) (sym s.questions) ((law_of_listing paths q).1 a))
 
-      made : (e : Entry) → Contains t.entries e → e.question ≡ q → IsFound q
+      made : (e : Judged) → Contains t.entries e → e.question ≡ q → IsFound q
       made e i same = record { entry = e; is_in = i; is = same; right = subst (λ (p : Asked). IsRight paths (numbers_of p) e.verdict) same (right_of e i) }
 
   -- ---- what the entries give, the paths have
 
-  static-from_entry : (e : Entry) → Contains t.entries e → (x y : ℕ) → gives_edge x y (mark_of e) ≡ true → StaticEdge paths x y
+  static-from_entry : (e : Judged) → Contains t.entries e → (x y : ℕ) → gives_edge x y (mark_of e) ≡ true → StaticEdge paths x y
   static-from_entry e i =
       let a = asked_of e i in
       edge-from_mark Meets paths e.question a (can_meet e.verdict) (is_exposed e.verdict) (meets-right paths (numbers_of e.question) a.mine a.theirs e.verdict (right_of e i a.mine a.theirs a.asked))
 
-  exposes : (e : Entry) (i : Contains t.entries e) → AsksReadWrite (numbers_of e.question) (asked_of e i).mine.kind (asked_of e i).theirs.kind → is_exposed e.verdict ≡ true → IsExposed paths (numbers_of e.question) (asked_of e i).mine (asked_of e i).theirs
+  exposes : (e : Judged) (i : Contains t.entries e) → AsksReadWrite (numbers_of e.question) (asked_of e i).mine.kind (asked_of e i).theirs.kind → is_exposed e.verdict ≡ true → IsExposed paths (numbers_of e.question) (asked_of e i).mine (asked_of e i).theirs
   exposes e i =
       let a = asked_of e i in
       exposed-right paths (numbers_of e.question) a.mine a.theirs e.verdict (right_of e i a.mine a.theirs a.asked)
 
-  vulnerable-from_entry : (e : Entry) → Contains t.entries e → (x y : ℕ) → gives_vulnerable x y (mark_of e) ≡ true → IsVulnerable paths x y
+  vulnerable-from_entry : (e : Judged) → Contains t.entries e → (x y : ℕ) → gives_vulnerable x y (mark_of e) ≡ true → IsVulnerable paths x y
   vulnerable-from_entry e i = vulnerable-from_mark (IsExposed paths) paths e.question (asked_of e i) (can_meet e.verdict) (is_exposed e.verdict) (exposes e i)
 
   pub static-from_HasEdge : IsWithin (HasEdge (marks_of t)) (StaticEdge paths)
@@ -128,7 +128,7 @@ module _ (t : Table) (paths : List Path) (s : StandsFor t paths) where
 
   -- a question that makes an edge vulnerable has an entry that does
   record IsGiven (x y : ℕ) (of : Question) : Type 0 where
-    entry : Entry
+    entry : Judged
     is_in : Contains t.entries entry
     is : of ≡ numbers_of entry.question
     gives : gives_vulnerable x y (mark_of entry) ≡ true
@@ -155,7 +155,7 @@ module _ (t : Table) (paths : List Path) (s : StandsFor t paths) where
 
   -- ---- the first exposed question
 
-  exposed-at : (x y n : ℕ) (e : Entry) → slice_get t.entries n ≡ Some e → gives_vulnerable x y (mark_of e) ≡ true → IsExposedAt paths t x y n
+  exposed-at : (x y n : ℕ) (e : Judged) → slice_get t.entries n ≡ Some e → gives_vulnerable x y (mark_of e) ≡ true → IsExposedAt paths t x y n
   unfolding vulnerable-from_entry
   exposed-at x y n e at h =
       let i = contains_at t.entries n e at in
@@ -172,25 +172,25 @@ module _ (t : Table) (paths : List Path) (s : StandsFor t paths) where
       subst (λ (q : Asked). gives_vulnerable x y (mark_by q (can_meet e.verdict) (is_exposed e.verdict)) ≡ true) same (g.gives (can_meet e.verdict) (is_exposed e.verdict) exposed)
 
   -- the one question of x against y stands before the other or is it
-  abbrev Precedes : Entry → Question → Type 0
+  abbrev Precedes : Judged → Question → Type 0
   Precedes e q = (e.question.a < q.a) ⊎ ((e.question.a ≡ q.a) × (e.question.b ≤ q.b))
 
-  entries_rise : (n m : ℕ) (e d : Entry) → slice_get t.entries n ≡ Some e → slice_get t.entries m ≡ Some d → n < m → IsBefore (numbers_of e.question) (numbers_of d.question)
+  entries_rise : (n m : ℕ) (e d : Judged) → slice_get t.entries n ≡ Some e → slice_get t.entries m ≡ Some d → n < m → IsBefore (numbers_of e.question) (numbers_of d.question)
   entries_rise n m e d at_n at_m = rise-between numbers_of (questions_of paths) (law_of_order paths) n m e.question d.question (listed n e at_n) (listed m d at_m)
     where
-      listed : (k : ℕ) (c : Entry) → slice_get t.entries k ≡ Some c → slice_get (questions_of paths) k ≡ Some c.question
+      listed : (k : ℕ) (c : Judged) → slice_get t.entries k ≡ Some c → slice_get (questions_of paths) k ≡ Some c.question
       listed k c h = subst (λ (qs : List Asked). slice_get qs k ≡ Some c.question) s.questions (mapped_at question_in t.entries k c h)
 
   least_of_places : (x y n : ℕ) (here : IsExposedAt paths t x y n) → ((m : ℕ) → IsExposedAt paths t x y m → n ≤ m) → IsLeastAt paths t x y n
   least_of_places x y n here first = record { at_place = here; least = least }
     where
       -- two questions of x against y, the one's place at or before the other's
-      compared : (h : IsVulnerable paths x y) (d : Entry) (m : ℕ) → slice_get t.entries m ≡ Some d → h.question ≡ numbers_of d.question → (n < m) ⊎ (m ≤ n) → n ≤ m → Precedes here.entry h.question
+      compared : (h : IsVulnerable paths x y) (d : Judged) (m : ℕ) → slice_get t.entries m ≡ Some d → h.question ≡ numbers_of d.question → (n < m) ⊎ (m ≤ n) → n ≤ m → Precedes here.entry h.question
       compared h d m at is (inr l) le =
           let here_too : m ≡ n = omega arith in
           let same : here.entry ≡ d = same_Some _ _ (sym here.at ∙ subst (λ k. slice_get t.entries k ≡ Some d) here_too at) in
-          let a_same : here.entry.question.a ≡ h.question.a = ap (λ (e : Entry). e.question.a) same ∙ sym (ap (λ (q : Question). q.a) is) in
-          let b_same : here.entry.question.b ≡ h.question.b = ap (λ (e : Entry). e.question.b) same ∙ sym (ap (λ (q : Question). q.b) is) in
+          let a_same : here.entry.question.a ≡ h.question.a = ap (λ (e : Judged). e.question.a) same ∙ sym (ap (λ (q : Question). q.a) is) in
+          let b_same : here.entry.question.b ≡ h.question.b = ap (λ (e : Judged). e.question.b) same ∙ sym (ap (λ (q : Question). q.b) is) in
           inr (a_same, omega arith)
       compared h d m at is (inl l) le = go (subst (λ (q : Question). IsBefore (numbers_of here.entry.question) q) (sym is) (entries_rise n m here.entry d here.at at l))
         where
@@ -247,7 +247,7 @@ module _ (t : Table) (paths : List Path) (s : StandsFor t paths) where
       same = same_Some _ _ (sym here.at ∙ f.at)
 
       same_question : here.entry.question ≡ e.question
-      same_question = ap (λ (d : Entry). d.question) same ∙ f.question
+      same_question = ap (λ (d : Judged). d.question) same ∙ f.question
 
       told : IsAskedOf paths here.entry.question
       told = asked_of here.entry (contains_at t.entries f.place here.entry here.at)
@@ -256,7 +256,7 @@ module _ (t : Table) (paths : List Path) (s : StandsFor t paths) where
       asked = subst (λ (q : Question). AsksOf paths q here.exposed.mine here.exposed.theirs) here.is here.exposed.asked
 
       verdict : here.entry.verdict ≡ Exposed e.sample
-      verdict = ap (λ (d : Entry). d.verdict) same ∙ f.verdict
+      verdict = ap (λ (d : Judged). d.verdict) same ∙ f.verdict
 
       right : IsRight paths here.exposed.question here.entry.verdict
       right = subst (λ (q : Question). IsRight paths q here.entry.verdict) (sym here.is) (right_of here.entry (contains_at t.entries f.place here.entry here.at))

@@ -4,7 +4,7 @@ use Rattle.prog_check.specs.declared.path.Path.{Path}
 use Rattle.prog_paths.specs.StaticGraph.{AsksReadWrite, HasQuestion, IsExposed, StaticEdge, IsVulnerable, IsDangerousAt}
 use Rattle.conflict_pairs.specs.declared.verdicts.Verdict.TheVariants.{Exposed}
 use Rattle.conflict_pairs.specs.Verdicts.{IsExposedBy}
-use Rattle.conflict_pairs.specs.Table.{Entry, Table}
+use Rattle.conflict_pairs.specs.Table.{Judged, Table}
 use Rattle.prog_paths.specs.Asked.{numbers_of}
 use Rattle.dep_graph.specs.declared.danger.Danger.{Danger}
 use Rattle.dep_graph.specs.declared.danger.Exposure.{Exposure}
@@ -16,7 +16,7 @@ use Rattle.dep_graph.specs.Marks.{IsFirstVulnerable, marks_of}
 pub record IsFirstExposure (t : Table) (x y : ℕ) (e : Exposure) : Type 0 where
   pub place : ℕ
   pub first : IsFirstVulnerable (marks_of t).marks x y place
-  pub entry : Entry
+  pub entry : Judged
   pub at : slice_get t.entries place ≡ Some entry
   pub question : entry.question ≡ e.question
   pub verdict : entry.verdict ≡ Exposed e.sample

@@ -4,7 +4,7 @@ use Rattle.std.specs.List.{list_any}
 use Rattle.order_facts.specs.Square.{Grid, IsSquareOf}
 use Rattle.prog_paths.specs.declared.accesses.mark.Mark.{Mark}
 use Rattle.prog_paths.specs.Marks.{mark_by, gives_edge, gives_vulnerable}
-use Rattle.conflict_pairs.specs.Table.{Entry, Table}
+use Rattle.conflict_pairs.specs.Table.{Judged, Table}
 use Rattle.conflict_pairs.specs.Verdicts.{can_meet, is_exposed}
 use Rattle.dep_graph.specs.Reaching.{IsReachOf}
 
@@ -14,7 +14,7 @@ pub record Marks : Type 0 where
   pub marks : List Mark
 
 -- what a question with its verdict gives
-abbrev pub mark_of : Entry → Mark
+abbrev pub mark_of : Judged → Mark
 mark_of e = mark_by e.question (can_meet e.verdict) (is_exposed e.verdict)
 
 -- what those of a table give

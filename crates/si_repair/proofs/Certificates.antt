@@ -16,7 +16,7 @@ use Rattle.prog_paths.proofs.Membership.{law_of_listing}
 use Rattle.prog_paths.proofs.Order.{law_of_order}
 use Rattle.conflict_pairs.specs.declared.verdicts.Verdict.{Verdict}
 use Rattle.conflict_pairs.specs.declared.verdicts.Verdict.TheVariants.{Apart, Covered, Exposed}
-use Rattle.conflict_pairs.specs.Table.{Entry as Judged, Table, StandsFor, IsRightEntry}
+use Rattle.conflict_pairs.specs.Table.{Judged, Table, StandsFor, IsRightEntry}
 use Rattle.conflict_pairs.specs.Verdicts.{IsRight, IsCoveredBy}
 use Rattle.robust_cert.specs.declared.entries.Reason as reason
 use Rattle.robust_cert.specs.Accepted.{question_of, IsCoverOf, Holds}

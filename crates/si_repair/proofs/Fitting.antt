@@ -18,7 +18,7 @@ use Rattle.prog_paths.specs.Listing.{IsAskedOf}
 use Rattle.conflict_pairs.specs.declared.verdicts.Verdict.{Verdict}
 use Rattle.conflict_pairs.specs.declared.verdicts.Verdict.TheVariants.{Apart, Covered, Exposed}
 use Rattle.conflict_pairs.specs.Interning.{IsServed}
-use Rattle.conflict_pairs.specs.Table.{Entry as Judged, Table, IsOnQuestion}
+use Rattle.conflict_pairs.specs.Table.{Judged, Table, IsOnQuestion}
 use Rattle.conflict_pairs.specs.Verdicts.{IsRight, is_exposed}
 use Rattle.conflict_pairs.proofs.Serving.{served-within}
 use Rattle.dep_graph.specs.Counting.{IsCountOf, none, counted, passed}

@@ -13,7 +13,7 @@ use Rattle.prog_paths.proofs.Edges.{HasQuestion-weaker, EdgeOf-weaker, EdgeOf-in
 use Rattle.prog_paths.proofs.Membership.{law_of_listing}
 use Rattle.conflict_pairs.specs.declared.verdicts.Verdict.{Verdict}
 use Rattle.conflict_pairs.specs.declared.verdicts.Verdict.TheVariants.{Apart, Covered, Exposed}
-use Rattle.conflict_pairs.specs.Table.{Entry as Judged, Table, StandsFor, IsRightEntry}
+use Rattle.conflict_pairs.specs.Table.{Judged, Table, StandsFor, IsRightEntry}
 use Rattle.conflict_pairs.specs.Verdicts.{mine_of, theirs_of, IsRight, IsRightOf}
 use Rattle.robust_cert.specs.declared.entries.Reason as reason
 use Rattle.robust_cert.specs.Accepted.{IsTold, IsToldApart, IsLeft, IsLeftVulnerable}

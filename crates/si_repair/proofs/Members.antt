@@ -2,7 +2,7 @@
 use Rattle.std.proofs.Common.{zero, suc, List, [], ◌∷◌, refl, sym, subst, arith}
 use Rattle.std.specs.Prelude.{Contains}
 use Rattle.std.proofs.lemmas.List.Elements.{Contains-append_left, Contains-append_right}
-use Rattle.conflict_pairs.specs.Table.{Entry as Judged}
+use Rattle.conflict_pairs.specs.Table.{Judged}
 use Rattle.robust_cert.specs.Sharing.{Entry}
 use Rattle.si_repair.specs.Certificates.{told_by, told_of}
 

@@ -11,7 +11,7 @@ use Rattle.conflict_pairs.specs.declared.verdicts.Verdict.TheVariants.{Apart, Co
 use Rattle.conflict_pairs.specs.declared.fault.PairFault.{PairFault}
 use Rattle.conflict_pairs.specs.declared.fault.PairFault as pairs
 use Rattle.conflict_pairs.specs.Interning.{AreInterned}
-use Rattle.conflict_pairs.specs.Table.{Entry as Judged, Table, StandsFor}
+use Rattle.conflict_pairs.specs.Table.{Judged, Table, StandsFor}
 use Rattle.conflict_pairs.specs.Verdicts.{is_exposed}
 use Rattle.robust_cert.specs.declared.certificate.Question.{Question}
 use Rattle.robust_cert.specs.declared.entries.Reason.{Reason}

@@ -3,7 +3,7 @@ use Rattle.std.specs.Prelude.{Some, slice_get}
 use Rattle.prog_paths.specs.declared.accesses.places.Placed.{Placed}
 use Rattle.conflict_pairs.specs.declared.pairing.PlacePair.{PlacePair}
 use Rattle.conflict_pairs.specs.Pairing.{HasPlaces, question_at, questions_at}
-use Rattle.conflict_pairs.specs.Table.{Entry, Table}
+use Rattle.conflict_pairs.specs.Table.{Judged, Table}
 use Rattle.conflict_pairs.proofs.Numbered.{entries-at}
 use Rattle.conflict_pairs.proofs.Paired.{pair-at, pairs-length}
 use Rattle.conflict_pairs.proofs.table.PairTable.question.Goals as goal
@@ -35,6 +35,6 @@ returns c e at =
     c.requires in
     pair-at inside.places.items inside.pairs.items c.args.n c.index.result.now q within c.index.ensures
     (c.question_of.ensures ∙ ap (λ (l : List Placed). question_at l c.index.result.now) c.deref.ensures.value)
-    ∙ sym (ap (λ (x : Entry). x.question)
+    ∙ sym (ap (λ (x : Judged). x.question)
     (entries-at inside.verdicts.items (questions_at inside.places.items inside.pairs.items) inside.numbers.items c.args.n q 0 e
-    (subst (λ (l : List Entry). slice_get l c.args.n ≡ Some e) (sym (ap (λ (t : Table). t.entries) c.self.view_is)) at)))
+    (subst (λ (l : List Judged). slice_get l c.args.n ≡ Some e) (sym (ap (λ (t : Table). t.entries) c.self.view_is)) at)))
