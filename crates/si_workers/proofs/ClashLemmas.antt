@@ -1,10 +1,11 @@
 -- Clashes of every call are told, where those of the calls of endings and jobs are.
-use Rattle.std.proofs.Common.{◌≡◌, ◌+◌, ◌⊎◌, inl, inr, refl, sym, subst, ◌∙◌, cond, Bool, true, false, ◌&&◌, ◌==◌, List, [], ◌∷◌, true≢false, slice_index_or, ◌↔◌}
+use Rattle.std.proofs.Common.{◌≡◌, ◌+◌, ◌⊎◌, inl, inr, refl, sym, subst, ◌∙◌, cond, Bool, true, false, ◌&&◌, ◌==◌, List, [], ◌∷◌, slice_index_or, ◌↔◌}
 use Rattle.std.specs.Prelude.{IsTrue}
 use Rattle.std.specs.List.{All}
 use Rattle.std.specs.Cmp.Lexicographic.{pointwise}
 use Rattle.std.specs.Ordering.{int_eq}
 use Rattle.std.specs.Prelude.{Option}
+use Rattle.std.proofs.lemmas.Bool.{and_parts}
 use Rattle.std.proofs.lemmas.Bool.Decides.{Decides-int_eq, Decides-eqb}
 use Rattle.std.proofs.lemmas.List.Elements.{All-head, All-tail}
 use Rattle.std.proofs.lemmas.List.Sums.{sum_by-cons}
@@ -18,19 +19,12 @@ use Rattle.si_workers.specs.Outcomes.{AreAsMany, AreClashesTold, IsClashTold}
 use Rattle.si_workers.specs.declared.job.Job.{Job}
 use Rattle.si_workers.specs.declared.job.JobOutcome.{JobOutcome}
 
-first : (a b : Bool) → (a && b) ≡ true → a ≡ true
-first true b e = refl
-first false b e = e
-
-second : (a b : Bool) → (a && b) ≡ true → b ≡ true
-second true b e = e
-second false b e = absurd (true≢false (sym e))
-
 -- calls that the test finds the same are equal
 same_calls : (a b : Call) → is_same_call a b ≡ true → a ≡ b
 same_calls a b e =
-    let programs : a.program ≡ b.program = (Decides-eqb a.program b.program).0 (first (a.program == b.program) (pointwise int_eq a.args b.args) e) in
-    let args : a.args ≡ b.args = (slice_eq-Decides Decides-int_eq a.args b.args (pointwise int_eq a.args b.args) refl).0 (second (a.program == b.program) (pointwise int_eq a.args b.args) e) in
+    let both = and_parts (a.program == b.program) (pointwise int_eq a.args b.args) e in
+    let programs : a.program ≡ b.program = (Decides-eqb a.program b.program).0 both.0 in
+    let args : a.args ≡ b.args = (slice_eq-Decides Decides-int_eq a.args b.args (pointwise int_eq a.args b.args) refl).0 both.1 in
     λ i. record { program = programs i; args = args i }
 
 -- what holds of a call holds of a call that is the same
@@ -93,6 +87,6 @@ pub all_told : (E F : List Ending) (T U : Tidings) (kept told : Bool) → E ≡ 
 all_told E F T U kept told e f h k =
     let is_kept : IsTrue kept ↔ All (IsClashTold F U) F = subst (λ (p : List Ending × Tidings). IsTrue kept ↔ All (IsClashTold p.0 p.1) F) (λ i. (e i, f i)) h in
     let is_told : IsTrue told ↔ All (λ t. AreAsMany F U (call_of t.0)) U = subst (λ (p : List Ending × Tidings). IsTrue told ↔ All (λ t. AreAsMany p.0 p.1 (call_of t.0)) U) (λ i. (e i, f i)) k in (
-      λ b. every_call F U (is_kept.0 (first kept told b)) (is_told.0 (second kept told b)),
+      (λ b. let both = and_parts kept told b in every_call F U (is_kept.0 both.0) (is_told.0 both.1)),
       λ all. (λ i. is_kept.1 (each_ending F U all) i && is_told.1 (each_job F U all) i),
     )

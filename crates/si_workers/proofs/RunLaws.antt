@@ -1,6 +1,7 @@
 -- What was told and settled gives what is promised of work.
 use Rattle.std.proofs.Common.{◌≡◌, ◌<◌, ℕ, zero, suc, false, refl, sym, subst, ap, ◌∙◌, arith, inl, inr, List, [], ◌∷◌, length, map, zip, Option, Some, None, Result, Ok, Err, IfOk, IfErr}
 use Rattle.std.proofs.lemmas.List.{length-map}
+use Rattle.std.proofs.lemmas.Option.{same_Some}
 use Rattle.prog_tree.specs.declared.program.Draft.{Draft}
 use Rattle.prog_tree.specs.Table.{TableState}
 use Rattle.prog_tree.specs.Syntax.{DraftTree}
@@ -89,10 +90,7 @@ module _ (given : Assigned) (jobs : List Job) (done : List Done) (v : BookView) 
   -- what is handed out where memory ran out
   handed-out : (book : Option BookView) → AreTaken given.workers jobs → IsTrueBook v → IsHandedOut given v book → IsWorkFault given jobs (Memory book)
   handed-out None taken holds out = (taken, tt)
-  handed-out (Some book) taken holds (inl out) = (taken, subst (IsTrueOver given) (sym (some-same book v out.1)) (holds, out.0))
-    where
-      some-same : (a b : BookView) → Some a ≡ Some b → a ≡ b
-      some-same a b e = cc
+  handed-out (Some book) taken holds (inl out) = (taken, subst (IsTrueOver given) (sym (same_Some book v out.1)) (holds, out.0))
   handed-out (Some book) taken holds (inr out) = absurd (cc)
 
   -- what is handed out where work is settled by a fault

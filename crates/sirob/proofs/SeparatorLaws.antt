@@ -1,9 +1,10 @@
 -- Where an input has more than one part, the search for a line `%%` finds one.
-use Rattle.std.proofs.Common.{◌≡◌, ◌∙◌, ◌⊎◌, inl, inr, ◌<◌, ◌≤◌, ◌+◌, ◌-◌, ◌++◌, ◌||◌, ℕ, Bool, true, false, List, [], ◌∷◌, zero, suc, codes, length, drop, nat_eq, refl, sym, ap, subst, arith, append_assoc}
+use Rattle.std.proofs.Common.{◌≡◌, ◌∙◌, ◌⊎◌, inl, inr, ◌<◌, ◌≤◌, ◌+◌, ◌-◌, ◌++◌, ℕ, Bool, true, false, List, [], ◌∷◌, zero, suc, codes, length, drop, nat_eq, refl, sym, ap, subst, arith, append_assoc}
 use Rattle.std.specs.Str.{bytes_eq}
 use Rattle.std.specs.List.{list_all, starts_with}
 use Rattle.std.proofs.Math.Seq.{drop-append_seam, drop-append-add, take-append_seam}
 use Rattle.std.proofs.lemmas.List.{length-append, append-nil}
+use Rattle.std.proofs.lemmas.Bool.{or_cases, or_right}
 use Rattle.std.proofs.lemmas.Bool.Decides.{Decides-eqb}
 use Rattle.std.proofs.lemmas.Slice.Eq.{bytes_eq-Decides, starts_is}
 use Rattle.text_places.specs.Places.{ends_line, is_feed}
@@ -53,14 +54,6 @@ has_first byte (next ∷ bytes) false is = longer_line byte (next ∷ bytes) is 
 
 -- ---- a separator as a line, and as a place
 
-either : (a b : Bool) → a || b ≡ true → (a ≡ true) ⊎ (b ≡ true)
-either true b some = inl refl
-either false b some = inr some
-
-second : (a b : Bool) → b ≡ true → a || b ≡ true
-second true b some = refl
-second false b some = some
-
 -- a line that is no more than `%%` has no feed
 no_feed : (line : List ℕ) → line ≡ codes "%%" → ends_line line ≡ true → ⊥
 no_feed line same ends =
@@ -77,11 +70,11 @@ starts_longer line rest needle starts =
 -- what begins with a separator still does with more behind it, unless its line goes on
 begins_longer : (line rest : List ℕ) → (rest ≡ []) ⊎ (ends_line line ≡ true) → begins_separator line ≡ true → begins_separator (line ++ rest) ≡ true
 begins_longer line rest (inl none) begins = rw (none, append-nil line) begins
-begins_longer line rest (inr ends) begins = go (either (bytes_eq line (codes "%%")) (starts_with nat_eq line (codes "%%\n")) begins)
+begins_longer line rest (inr ends) begins = go (or_cases (bytes_eq line (codes "%%")) (starts_with nat_eq line (codes "%%\n")) begins)
   where
     go : (bytes_eq line (codes "%%") ≡ true) ⊎ (starts_with nat_eq line (codes "%%\n") ≡ true) → begins_separator (line ++ rest) ≡ true
     go (inl alone) = absurd (no_feed line ((bytes_eq-Decides line (codes "%%")).0 alone) ends)
-    go (inr starts) = second (bytes_eq (line ++ rest) (codes "%%")) _ (starts_longer line rest (codes "%%\n") starts)
+    go (inr starts) = or_right (bytes_eq (line ++ rest) (codes "%%")) _ (starts_longer line rest (codes "%%\n") starts)
 
 more_parts : (line : List ℕ) (parts : List (List ℕ)) → 1 < length (before_parts line parts) → 1 < length parts
 more_parts line [] many = absurd (omega (arith, many))
