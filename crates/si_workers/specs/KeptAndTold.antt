@@ -38,6 +38,9 @@ aborts_kept call cause = count_by (is_abort call cause)
 abbrev pub clashes_kept : Call → List Ending → ℕ
 clashes_kept call = count_by (is_clash_of call)
 
+abbrev pub clashes_on : Call → Clash → List Ending → ℕ
+clashes_on call clash = count_by (is_clash_on call clash)
+
 -- ---- outcomes of jobs
 
 -- the end is the commit of the number

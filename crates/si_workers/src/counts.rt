@@ -28,11 +28,11 @@ pub struct Counts<'c> {
 }
 
 impl<'c> Model for Counts<'c> {
-    ghost use Rattle.std.specs.Prelude.{◌<◌, count_by, length};
+    ghost use Rattle.std.specs.Prelude.{◌<◌, length};
     ghost use Rattle.std.specs.Ordering.{nat_cmp};
     ghost use Rattle.si_workers.specs.Counts.{Counted};
     ghost use Rattle.si_workers.specs.KeptAndTold.{aborts_kept, aborts_told, clashes_kept};
-    ghost use Rattle.si_workers.specs.KeptAndTold.{clashes_told, commits_told, is_clash_on};
+    ghost use Rattle.si_workers.specs.KeptAndTold.{clashes_on, clashes_told, commits_told};
     ghost use Rattle.si_workers.specs.Keys.{abort_cmp, call_at, call_cmp, cause_at, clash_at, clash_cmp};
     ghost use Rattle.si_workers.specs.Tally.{Tallies, most};
 
@@ -48,7 +48,7 @@ impl<'c> Model for Counts<'c> {
         × Tallies abort_cmp (λ q.
         aborts_told (call_at q.call) (cause_at q.cause) c.tidings.now) c.told_aborts
         × Tallies clash_cmp (λ q.
-        count_by (is_clash_on (call_at q.call) (clash_at q)) c.endings.now) c.kept_clashes
+        clashes_on (call_at q.call) (clash_at q) c.endings.now) c.kept_clashes
         × Tallies call_cmp (λ q. clashes_kept (call_at q) c.endings.now) c.kept_clashes_of
         × Tallies call_cmp (λ q. clashes_told (call_at q) c.tidings.now) c.told_clashes_of };
 }
