@@ -1,6 +1,6 @@
 -- Laws on the lines of events, one after another.
-use Rattle.std.proofs.Common.{◌≡◌, Bool, true, false, Option, List, [], ◌∷◌, ◌++◌, ℕ, ℤ, ◌+◌, ◌<◌, length, get_or, drop, refl, subst, Result, Ok, Err, IfOk, OnOk, OnErr, sym, ap, ◌∙◌, append_assoc}
-use Rattle.std.proofs.lemmas.List.{drop_more, length-map}
+use Rattle.std.proofs.Common.{◌≡◌, Bool, true, false, Option, List, [], ◌∷◌, ◌++◌, ℕ, ℤ, ◌+◌, ◌<◌, length, get_or, drop, replicate, refl, subst, Result, Ok, Err, IfOk, OnOk, OnErr, sym, ap, ◌∙◌, append_assoc, arith}
+use Rattle.std.proofs.lemmas.List.{drop_more, length-map, length-replicate}
 use Rattle.std.proofs.lemmas.List.Concat.{flat_map-cons}
 use Rattle.std.specs.List.{zip}
 use Rattle.prog_tree.specs.Syntax.{DraftTree}
@@ -112,6 +112,10 @@ rows_left v d rows same is =
     ∙ ap (λ n. row_lines (draft_tree v.set) (state_after (draft_tree v.set) v.opening (history_of v.rows) n)) (sym (length-map v.rows instance_of)))
 
 -- ---- runs of the bytes of a source
+
+-- there are inputs past any length
+pub longer_than : (n : ℕ) → (input : List ℕ) × (n < length input)
+longer_than n = (replicate (n + 1) 0, subst (λ (k : ℕ). n < k) (sym (length-replicate (n + 1) 0)) (omega arith))
 
 module _ (set : DraftTree) (left : Option (List ℕ)) where
   pub run_refused : (f : PartFault) (out : List ℕ) → out ≡ [] → ForInput left (λ part. IsScriptFault set part f) → ForInput left (λ part. IsRunOf set part out (Err f))

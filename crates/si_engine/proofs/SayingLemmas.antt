@@ -1,8 +1,7 @@
 -- One line behind others, and what the whole says by it.
-use Rattle.std.proofs.Common.{◌≤◌, Bool, true, false, Option, Some, IfSome, replicate, ◌≡◌, ℕ, ◌+◌, ◌<◌, ◌==◌, List, [], ◌∷◌, ◌++◌, length, map, None, Result, Ok, refl, sym, ◌∙◌, ap, subst, arith}
+use Rattle.std.proofs.Common.{◌≤◌, Bool, true, false, Option, Some, IfSome, ◌≡◌, ℕ, ◌+◌, ◌<◌, ◌==◌, List, [], ◌∷◌, ◌++◌, length, map, None, Result, Ok, refl, sym, ◌∙◌, ap, subst, arith}
 use Rattle.std.specs.List.{before_first, after_first}
 use Rattle.std.specs.Str.Lines.{strip_carriage_return}
-use Rattle.std.proofs.lemmas.List.{length-replicate}
 use Rattle.si_engine.specs.declared.input.line_fault.LineFault.{LineFault}
 use Rattle.si_engine.specs.declared.input.line_fault.LineFault.TheVariants as f
 use Rattle.si_engine.specs.declared.input.part_fault.PartFault.TheVariants as fault
@@ -14,6 +13,7 @@ use Rattle.si_engine.specs.Sources.{CanGive, ForInput}
 use Rattle.si_engine.specs.LineFaults.{◌>>=◌, Fails, IsFault}
 use Rattle.si_engine.specs.Sayings.{sayings_from, IsPartFault}
 use Rattle.si_engine.proofs.LineLemmas.{pieces-cut}
+use Rattle.si_engine.proofs.RunLaws.{longer_than}
 
 -- the first line, and those behind it
 lines-cut : (bs : List ℕ) → 0 < length bs → lines_of bs ≡ strip_carriage_return (before_first (λ c. c == 10) bs) ∷ lines_of (after_first (λ c. c == 10) bs)
@@ -91,9 +91,6 @@ module _ {S : Type 0} (say : (line : ℕ) → List ℕ → Result S LineFault) (
       ap (λ bs. sayings_from say wrong (line + 1) (before ++ said ∷ []) (lines_of bs)) is ∙ (sym (step say wrong line before bytes _ said read placed) ∙ from_here)
 
 -- ---- the bytes of a source
-
-longer_than : (n : ℕ) → (input : List ℕ) × (n < length input)
-longer_than n = (replicate (n + 1) 0, subst (λ (k : ℕ). n < k) (sym (length-replicate (n + 1) 0)) (omega arith))
 
 -- the bytes can't be had
 pub unread_part : {Y : Type 0} (read : List ℕ → Result Y LineFault) (f : InputFault) (left : Option (List ℕ)) (failed : Bool)

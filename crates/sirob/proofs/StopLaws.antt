@@ -1,7 +1,6 @@
 -- Laws on how a command stops, and on what is then written.
-use Rattle.std.proofs.Common.{◌≡◌, ◌⊎◌, inl, inr, ◌≤◌, ◌<◌, ◌-◌, ◌^◌, ◌+◌, ◌++◌, ℕ, Bool, true, false, List, [], ◌∷◌, length, map, take, drop, replicate, take-append-drop, take_at, append_assoc, append-nil, zero-add, suc-add, arith, Option, Some, None, Result, Ok, Err, IfOk, IfSome, refl, sym, subst, ap, ◌∙◌}
+use Rattle.std.proofs.Common.{◌≡◌, ◌⊎◌, inl, inr, ◌≤◌, ◌<◌, ◌-◌, ◌^◌, ◌+◌, ◌++◌, ℕ, Bool, true, false, List, [], ◌∷◌, length, map, take, drop, take-append-drop, take_at, append_assoc, append-nil, zero-add, suc-add, arith, Option, Some, None, Result, Ok, Err, IfOk, IfSome, refl, sym, subst, ap, ◌∙◌}
 use Rattle.std.proofs.KnownBytes.{Appends-nil, Appends-trans}
-use Rattle.std.proofs.lemmas.List.{length-replicate}
 use Rattle.std.proofs.lemmas.List.FromFn.{length-map-range_with_len}
 use Rattle.std.specs.Io.KnownBytes.{Appends}
 use Rattle.prog_tree.specs.declared.program.Draft.{Draft}
@@ -29,7 +28,8 @@ use Rattle.si_engine.specs.Runs.{end_lines, AddsEnd, AddsFirst, IsRunOf, IsRunRe
 use Rattle.si_engine.specs.Runs as r
 use Rattle.si_engine.specs.Sayings.{IsPartFault}
 use Rattle.si_engine.specs.Script.{script_of}
-use Rattle.si_engine.specs.Writing.{AppendsFront, IsJust, WritesOr}
+use Rattle.si_engine.specs.Writing.{AppendsFront, WritesOr}
+use Rattle.si_engine.proofs.RunLaws.{longer_than}
 use Rattle.sirob.specs.declared.command_line.Mode.{Mode}
 use Rattle.sirob.specs.declared.command_line.Mode.TheVariants.{Check, Certify, Verify, Repair, Run, Audit, Work}
 use Rattle.sirob.specs.declared.command_fault.CommandFault.{CommandFault}
@@ -55,10 +55,6 @@ stops_at mode i.TooLong input failed long fails works = stops_at_once mode input
 stops_at mode i.ReadFault input failed long fails works =
     let never : true ≡ false = sym (fails refl) ∙ works in absurd (cc)
 stops_at mode i.Memory input failed long fails works = stops_at_once mode input (fault.Input i.Memory) (λ e. absurd (cc))
-
--- there are inputs past any length
-longer_than : (n : ℕ) → (input : List ℕ) × (n < length input)
-longer_than n = (replicate (n + 1) 0, subst (λ (k : ℕ). n < k) (sym (length-replicate (n + 1) 0)) (omega arith))
 
 -- reading stopped
 stops_reading :
@@ -250,24 +246,11 @@ part_is_input mode input set part two has written (Err f) given = (
 
 -- ---- what is written
 
--- what is written so is written so too
-pub writes_as : (P Q : List ℕ → Status → Type 0) (failed : Bool) (old new : Option (List ℕ)) (status : Status)
-    → ((written : List ℕ) (ended : Status) → P written ended → Q written ended) → WritesWithStatus P failed old new status → WritesWithStatus Q failed old new status
-writes_as P Q false old new status turn (written, is, appends) = (written, turn written status is, appends)
-writes_as P Q true old new status turn (faulty, written, meant, is, appends) = (faulty, written, meant, turn written meant is, appends)
-
--- the same where the end is told in other words
+-- what is written so is written so too, where the end is told in other words
 pub writes_or_as : {D E : Type 0} (g : D → E) (lost : D) (P : List ℕ → D → Type 0) (Q : List ℕ → E → Type 0) (failed : Bool) (old new : Option (List ℕ)) (ended : D)
     → ((written : List ℕ) (end : D) → P written end → Q written (g end)) → WritesOr lost P failed old new ended → WritesOr (g lost) Q failed old new (g ended)
 writes_or_as g lost P Q false old new ended turn (written, is, appends) = (written, turn written ended is, appends)
 writes_or_as g lost P Q true old new ended turn (lost_is, written, meant, is, appends) = (ap g lost_is, written, g meant, turn written meant is, appends)
-
--- just these bytes and this status were meant, and they are so
-pub writes_just : (P : List ℕ → Status → Type 0) (bytes : List ℕ) (given : Status) (failed : Bool) (old new : Option (List ℕ)) (status : Status)
-    → P bytes given → WritesWithStatus (IsJust bytes given) failed old new status → WritesWithStatus P failed old new status
-writes_just P bytes given failed old new status is writes =
-    writes_as (IsJust bytes given) P failed old new status
-    (λ written ended just. subst (λ w. P w ended) (sym just.0) (subst (λ s. P bytes s) (sym just.1) is)) writes
 
 -- some first of the bytes are some first of them and others
 pub front_before : (old new : Option (List ℕ)) (first second : List ℕ) → AppendsFront old new first → AppendsFront old new (first ++ second)
@@ -286,13 +269,6 @@ take_past (x ∷ xs) second n = ap (λ (k : ℕ). take k (x ∷ (xs ++ second)))
 front_behind : (old mid new : Option (List ℕ)) (first second : List ℕ) → Appends old mid first → AppendsFront mid new second → AppendsFront old new (first ++ second)
 front_behind old mid new first second appends (n, more) =
     (length first + n, subst (Appends old new) (sym (take_past first second n)) (Appends-trans old mid new first (take n second) appends more))
-
--- lines were written, and this end was given
-pub wrote_lines : (P : List ℕ → Result Status CommandFault → Type 0) (lines : List ℕ) (given : Result Status CommandFault) (failed : Bool) (old new : Option (List ℕ)) (ended : Result Status CommandFault)
-    → P lines given → WritesOr (Err write_lost) (IsJust lines given) failed old new ended → WritesOr (Err write_lost) P failed old new ended
-wrote_lines P lines given failed old new ended is writes =
-    writes_or_as (λ (e : Result Status CommandFault). e) (Err write_lost) (IsJust lines given) P failed old new ended
-    (λ written end just. subst (λ (l : List ℕ). P l end) (sym just.0) (subst (P lines) (sym just.1) is)) writes
 
 -- ---- what a command replies
 

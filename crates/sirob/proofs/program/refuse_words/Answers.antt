@@ -2,10 +2,10 @@ use Rattle.std.proofs.Common.{◌≡◌, ◌≢◌, [], false, rules, refl, sym,
 use Rattle.clap.specs.Words.{kind_of}
 use Rattle.clap.specs.declared.error.kind.ErrorKind.{ErrorKind}
 use Rattle.clap.specs.declared.error.kind.ErrorKind.TheVariants as kinds
+use Rattle.si_engine.proofs.RunLaws.{writes_just}
 use Rattle.sirob.specs.declared.status.Status.TheVariants as status
 use Rattle.sirob.specs.Output.{memory_line}
 use Rattle.sirob.specs.Program.{is_text, IsModeless, stopped, mistaken}
-use Rattle.sirob.proofs.StopLaws.{writes_just}
 use Rattle.sirob.proofs.program.refuse_words.Goals as goal
 
 -- neither help nor the version
@@ -32,7 +32,7 @@ pub returns-then-eq : goal.returns-then-eq
 returns-then-eq g c =
     let kind = kind_of c.args.error.now in
     let memory : kind ≡ kinds.OutOfMemory = search rules in
-    writes_just (IsModeless kind) memory_line status.Memory _ _ _ _ (subst (λ k. IsModeless k memory_line status.Memory) (sym memory) stopped) c.tell_memory.ensures
+    writes_just status.Faulty (IsModeless kind) memory_line status.Memory _ _ _ _ (subst (λ k. IsModeless k memory_line status.Memory) (sym memory) stopped) c.tell_memory.ensures
 
 pub returns-then-use_stderr : goal.returns-then-use_stderr
 returns-then-use_stderr g c =
@@ -40,4 +40,4 @@ returns-then-use_stderr g c =
     let memory : kind ≢ kinds.OutOfMemory = search rules in
     let help : kind ≢ kinds.DisplayHelp = search rules in
     let version : kind ≢ kinds.DisplayVersion = search rules in
-    writes_just (IsModeless kind) [] status.Faulty _ _ _ _ (mistaken kind (no_text kind help version) memory) c.tell_nothing.ensures
+    writes_just status.Faulty (IsModeless kind) [] status.Faulty _ _ _ _ (mistaken kind (no_text kind help version) memory) c.tell_nothing.ensures

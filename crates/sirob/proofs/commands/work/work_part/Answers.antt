@@ -1,13 +1,14 @@
-use Rattle.std.proofs.Common.{List, ℕ, Ok, inl, inr, refl, string_bytes, sym, subst}
+use Rattle.std.proofs.Common.{List, ℕ, Ok, Err, inl, inr, refl, string_bytes, sym, subst}
 use Rattle.std.proofs.lemmas.Result.{err_from_is_err_and}
 use Rattle.prog_tree.specs.declared.program.Draft.{Draft}
 use Rattle.prog_tree.specs.Tree.{draft_tree}
+use Rattle.si_engine.proofs.RunLaws.{writes_just}
 use Rattle.sirob.specs.declared.command_line.Mode.TheVariants.{Work}
 use Rattle.sirob.specs.declared.commands.robust.Verified.{Verified}
 use Rattle.sirob.specs.declared.status.Status.TheVariants as status
 use Rattle.sirob.specs.Output.{GivesRefusal, GivesWork, IsFaultOfPart}
-use Rattle.sirob.specs.Stops.{IsPartDone, IsVerified}
-use Rattle.sirob.proofs.StopLaws.{part_stopped, part_unanalysed, wrote_lines}
+use Rattle.sirob.specs.Stops.{IsPartDone, IsVerified, write_lost}
+use Rattle.sirob.proofs.StopLaws.{part_stopped, part_unanalysed}
 use Rattle.sirob.proofs.commands.work.work_part.Goals as goal
 
 pub returns-in_err-set : goal.returns-in_err-set
@@ -25,7 +26,7 @@ returns-in-Refused g c =
     let set = draft_tree c.args.set in
     let refusal = subst (λ (v : Verified). IsVerified c.args.set v) c.in-Refused.is c.in_ok-set.ensures.ok in
     let gives = subst (λ (text : List ℕ). GivesRefusal set text status.Unserializable) (sym c.as_bytes-in-Refused.ensures.value) refusal in
-    wrote_lines (IsPartDone (Work c.args.workers) set c.args.part.now) c.as_bytes-in-Refused.result.now (Ok status.Unserializable) _ _ _ _ (inr gives, tt) c.write_lines-in-Refused.ensures
+    writes_just (Err write_lost) (IsPartDone (Work c.args.workers) set c.args.part.now) c.as_bytes-in-Refused.result.now (Ok status.Unserializable) _ _ _ _ (inr gives, tt) c.write_lines-in-Refused.ensures
 
 pub returns-in_err-text-in-Robust : goal.returns-in_err-text-in-Robust
 returns-in_err-text-in-Robust g c =
@@ -46,4 +47,4 @@ returns-in_ok-text-in-Robust g c =
     let robust = subst (λ (v : Verified). IsVerified c.args.set v) c.in-Robust.is c.in_ok-set.ensures.ok in
     let of_set = subst (λ (own : Draft). GivesWork workers (draft_tree own) part (string_bytes c.in_ok-text-in-Robust.field-0.text)) robust.0 c.in_ok-text-in-Robust.ensures.ok in
     let gives = subst (λ (text : List ℕ). GivesWork workers set part text) (sym c.as_bytes.ensures.value) of_set in
-    wrote_lines (IsPartDone (Work workers) set part) c.as_bytes.result.now (Ok status.Done) _ _ _ _ (inl (robust.1, gives, refl), tt) c.write_lines.ensures
+    writes_just (Err write_lost) (IsPartDone (Work workers) set part) c.as_bytes.result.now (Ok status.Done) _ _ _ _ (inl (robust.1, gives, refl), tt) c.write_lines.ensures
