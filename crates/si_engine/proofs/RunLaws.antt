@@ -1,5 +1,5 @@
 -- Laws on the lines of events, one after another.
-use Rattle.std.proofs.Common.{◌≡◌, Bool, true, false, Option, List, [], ◌∷◌, ◌++◌, ℕ, ℤ, ◌+◌, ◌<◌, length, get_or, drop, replicate, refl, subst, Result, Ok, Err, IfOk, OnOk, OnErr, sym, ap, ◌∙◌, append_assoc, arith}
+use Rattle.std.proofs.Common.{◌≡◌, Bool, true, false, Option, List, [], ◌∷◌, ◌++◌, ℕ, ℤ, ◌+◌, ◌<◌, length, get_or, drop, replicate, refl, subst, Result, Ok, Err, sym, ap, ◌∙◌, append_assoc, arith}
 use Rattle.std.proofs.lemmas.List.{drop_more, length-map, length-replicate}
 use Rattle.std.proofs.lemmas.List.Concat.{flat_map-cons}
 use Rattle.std.specs.List.{zip}
@@ -76,18 +76,6 @@ module _ (set : DraftTree) (script : Script) (opening : TableState) (events : Li
     first_rows first =
         adds_behind (event_lines set script.rows script.events new_machine) lines_of_end s t u (subst (λ l. AddsLines l s t) lines_are h)
         (subst (λ i. AddsFirst (end_lines set script.rows i) t u) is_history (subst (λ p. AddsFirst (end_lines set p history) t u) same (subst (λ e. AddsFirst (end_lines e o history) t u) same_set first)))
-
-pub if_ok : {X E : Type 0} {P Q : X → Type 0} (r : Result X E) → ((x : X) → P x → Q x) → IfOk r P → IfOk r Q
-if_ok (Ok x) f h = f x h
-if_ok (Err e) f h = h
-
-pub on_ok : {X E P Q : Type 0} (r : Result X E) → (P → Q) → OnOk r P → OnOk r Q
-on_ok (Ok x) f h = f h
-on_ok (Err e) f h = h
-
-pub on_err : {X E P Q : Type 0} (r : Result X E) → (P → Q) → OnErr r P → OnErr r Q
-on_err (Ok x) f h = h
-on_err (Err e) f h = f h
 
 -- the line of the next row is added behind those of the first ones
 pub next_row :

@@ -1,9 +1,9 @@
 use Rattle.std.proofs.Common.{◌∙◌, ap, sym, subst, IfOk, OnErr, string_bytes}
-use Rattle.std.proofs.lemmas.Result.{err_from_is_err_and}
+use Rattle.std.proofs.lemmas.Result.{err_from_is_err_and, on_err_weaker, IfOk-weaker}
 use Rattle.prog_tree.specs.Tree.{draft_tree}
 use Rattle.history_book.specs.View.{history_of}
 use Rattle.si_engine.specs.Runs.{run_lines, AddsFirst, AddsRun}
-use Rattle.si_engine.proofs.RunLaws.{first_events, after_is, all_lines, first_rows, if_ok, on_err}
+use Rattle.si_engine.proofs.RunLaws.{first_events, after_is, all_lines, first_rows}
 use Rattle.si_engine.proofs.run.push_lines.Goals as goal
 
 pub returns-in_err-run_events-clause-err : goal.returns-in_err-run_events-clause-err
@@ -28,7 +28,7 @@ returns-clause-ok g c =
     let history =
     c.book.ensures.history ∙ ap (λ m. m.history) (ran.after ∙ after_is set c.args.script engine.opening c.as_slice.result.now engine.machine opening c.as_slice.ensures machine) in
     subst (λ d. IfOk c.push_findings_before.result (λ finding. AddsRun (draft_tree d) c.args.script finding (string_bytes c.args.out.now) (string_bytes c.push_findings_before.new.out))) c.draft-draft.ensures.same
-    (if_ok c.push_findings_before.result
+    (IfOk-weaker c.push_findings_before.result _ _
     (all_lines set c.args.script engine.opening c.as_slice.result.now engine.machine opening c.as_slice.ensures machine
     (string_bytes c.args.out.now) (string_bytes c.run_events.new.out) (string_bytes c.push_findings_before.new.out)
     (draft_tree book.set) book.opening (history_of book.rows) (ap draft_tree same) (c.book.ensures.opening ∙ (ran.over.1 ∙ opening)) history ran.ok)
@@ -46,7 +46,7 @@ returns-clause-err g c =
     let history =
     c.book.ensures.history ∙ ap (λ m. m.history) (ran.after ∙ after_is set c.args.script engine.opening c.as_slice.result.now engine.machine opening c.as_slice.ensures machine) in
     subst (λ d. OnErr c.push_findings_before.result (AddsFirst (run_lines (draft_tree d) c.args.script) (string_bytes c.args.out.now) (string_bytes c.push_findings_before.new.out))) c.draft-draft.ensures.same
-    (on_err c.push_findings_before.result
+    (on_err_weaker c.push_findings_before.result
     (first_rows set c.args.script engine.opening c.as_slice.result.now engine.machine opening c.as_slice.ensures machine
     (string_bytes c.args.out.now) (string_bytes c.run_events.new.out) (string_bytes c.push_findings_before.new.out)
     (draft_tree book.set) book.opening (history_of book.rows) (ap draft_tree same) (c.book.ensures.opening ∙ (ran.over.1 ∙ opening)) history ran.ok)

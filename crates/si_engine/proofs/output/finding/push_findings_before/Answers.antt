@@ -1,11 +1,11 @@
 use Rattle.std.proofs.Common.{◌≡◌, List, ◌++◌, ℕ, ◌∙◌, subst, string_bytes}
-use Rattle.std.proofs.lemmas.Result.{err_from_is_err_and, IfOk-weaker}
+use Rattle.std.proofs.lemmas.Result.{err_from_is_err_and, on_err_weaker, IfOk-weaker}
 use Rattle.prog_tree.specs.Tree.{draft_tree}
 use Rattle.history_book.specs.View.{history_of}
 use Rattle.si_engine.specs.LastLine.{IsLastLine}
 use Rattle.si_engine.specs.Runs.{end_lines, AddsLines, AddsEnd, AddsFirst}
 use Rattle.si_engine.proofs.OutputLaws.{adds_all, adds_line}
-use Rattle.si_engine.proofs.RunLaws.{on_err, rows_left}
+use Rattle.si_engine.proofs.RunLaws.{rows_left}
 use Rattle.si_engine.proofs.output.finding.push_findings_before.Goals as goal
 
 pub returns-in_err-push_rows-clause-err : goal.returns-in_err-push_rows-clause-err
@@ -17,7 +17,7 @@ returns-in_err-push_rows-clause-err g c =
 pub returns-clause-err : goal.returns-clause-err
 returns-clause-err g c =
     let rows = rows_left c.args.book.now c.draft.result.now c.as_slice.result.now (c.draft.ensures.same ∙ c.set.ensures) (c.as_slice.ensures ∙ c.in_ok-table.ensures) in
-    on_err c.push_order.result
+    on_err_weaker c.push_order.result
     (adds_all (end_lines (draft_tree c.args.book.now.set) c.args.book.now.opening (history_of c.args.book.now.rows)) _ _ _
     (subst (λ (lines : List (List ℕ)). AddsLines lines (string_bytes c.args.out.now) (string_bytes c.push_rows.new.out)) rows c.in_ok-push_rows.ensures.ok))
     c.push_order.ensures.err

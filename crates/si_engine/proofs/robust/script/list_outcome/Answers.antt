@@ -1,13 +1,12 @@
 use Rattle.std.proofs.Common.{◌≡◌, List, ℕ, ◌++◌, ◌∙◌, ap, subst, string_bytes}
 use Rattle.std.specs.List.{zip}
-use Rattle.std.proofs.lemmas.Result.{err_from_is_err_and}
+use Rattle.std.proofs.lemmas.Result.{err_from_is_err_and, on_err_weaker, on_ok_weaker}
 use Rattle.prog_tree.specs.Table.{TableState}
 use Rattle.prog_tree.specs.Tree.{draft_tree}
 use Rattle.si_engine.specs.declared.output.finding.Serializability.TheVariants.{Order}
 use Rattle.si_engine.specs.LastLine.{last_line}
 use Rattle.si_engine.specs.Runs.{exchange_lines, row_lines, AddsLines, AddsFirst}
 use Rattle.si_engine.proofs.OutputLaws.{adds_all, adds_both, adds_line, adds_behind, adds_first_of}
-use Rattle.si_engine.proofs.RunLaws.{on_ok, on_err}
 use Rattle.si_engine.proofs.robust.script.list_outcome.Goals as goal
 
 pub returns-in_err-list_replies-clause-err : goal.returns-in_err-list_replies-clause-err
@@ -50,7 +49,7 @@ returns-clause-ok c =
     subst (λ (table : TableState). AddsLines (row_lines (draft_tree c.args.set.now) table) (string_bytes c.list_replies.new.out) (string_bytes c.push_rows.new.out))
     c.as_slice-2.ensures c.in_ok-push_rows.ensures.ok in
     let both = adds_both replies rows _ _ _ first told in
-    on_ok c.push_last_line.result
+    on_ok_weaker c.push_last_line.result
     (λ (wrote : string_bytes c.push_last_line.new.text ≡ string_bytes c.push_rows.new.out ++ last_line Order c.as_slice-3.result.now).
     adds_line (replies ++ rows) (last_line Order o.order) _ _ _ both
     (wrote ∙ ap (λ ns. string_bytes c.push_rows.new.out ++ last_line Order ns) c.as_slice-3.ensures))
@@ -70,6 +69,6 @@ returns-clause-err c =
     subst (λ (table : TableState). AddsLines (row_lines (draft_tree c.args.set.now) table) (string_bytes c.list_replies.new.out) (string_bytes c.push_rows.new.out))
     c.as_slice-2.ensures c.in_ok-push_rows.ensures.ok in
     let both = adds_both replies rows _ _ _ first told in
-    on_err c.push_last_line.result
+    on_err_weaker c.push_last_line.result
     (λ (same : string_bytes c.push_last_line.new.text ≡ string_bytes c.push_rows.new.out). adds_all (replies ++ rows) _ _ _ both same)
     c.push_last_line.ensures.err

@@ -1,13 +1,13 @@
 use Rattle.std.proofs.Common.{◌∙◌, string_bytes}
+use Rattle.std.proofs.lemmas.Result.{on_err_weaker, on_ok_weaker}
 use Rattle.si_engine.proofs.OutcomeLaws.{run_added, first_added}
-use Rattle.si_engine.proofs.RunLaws.{on_ok, on_err}
 use Rattle.si_engine.proofs.robust.script.push_lines.Goals as goal
 
 pub returns-clause-ok : goal.returns-clause-ok
 returns-clause-ok g c =
     let same = c.draft.ensures.same ∙ c.set.ensures.same in
     let ran = c.in_ok-outcome.ensures in
-    on_ok c.list_outcome.result
+    on_ok_weaker c.list_outcome.result
     (run_added c.args.set.now c.draft.result.now c.args.script c.in_ok-outcome.outcome c.as_slice.result.now c.as_slice-2.result.now
     same c.as_slice.ensures c.as_slice-2.ensures ran.headline (string_bytes c.args.out.now) (string_bytes c.list_outcome.new.out) ran.least)
     c.list_outcome.ensures.ok
@@ -16,7 +16,7 @@ pub returns-clause-err : goal.returns-clause-err
 returns-clause-err g c =
     let same = c.draft.ensures.same ∙ c.set.ensures.same in
     let ran = c.in_ok-outcome.ensures in
-    on_err c.list_outcome.result
+    on_err_weaker c.list_outcome.result
     (first_added c.args.set.now c.draft.result.now c.args.script c.in_ok-outcome.outcome c.as_slice.result.now c.as_slice-2.result.now
     same c.as_slice.ensures c.as_slice-2.ensures ran.headline (string_bytes c.args.out.now) (string_bytes c.list_outcome.new.out))
     c.list_outcome.ensures.err
