@@ -47,13 +47,14 @@ same_number (suc i) (suc j) = go (same_number i j)
 
 -- ---- active instances with their numbers
 
-at_own : (n : ℕ) → is_at (nat_cmp n) n ≡ true
+-- a number is at itself, and not at a lower one
+pub at_own : (n : ℕ) → is_at (nat_cmp n) n ≡ true
 at_own n =
     let not_less : nat_lt n n ≡ false = grind (arith, nat_tests) in
     let same : (n == n) ≡ true = grind (arith, nat_tests) in
     rw (not_less, same) refl
 
-at_other : (n m : ℕ) → m < n → is_at (nat_cmp n) m ≡ false
+pub at_other : (n m : ℕ) → m < n → is_at (nat_cmp n) m ≡ false
 at_other n m less =
     let not_less : nat_lt n m ≡ false = grind (arith, nat_tests) in
     let not_same : (n == m) ≡ false = grind (arith, nat_tests) in

@@ -1,5 +1,5 @@
 -- An instance that was just begun.
-use Rattle.std.proofs.Common.{◌≡◌, ℕ, ◌+◌, ◌<◌, ◌==◌, true, false, nat_lt, List, [], ◌∷◌, ◌++◌, length, refl, ap, sym, ◌∙◌, arith}
+use Rattle.std.proofs.Common.{◌≡◌, ℕ, ◌+◌, ◌<◌, ◌==◌, true, List, [], ◌∷◌, ◌++◌, length, refl, ap, sym, ◌∙◌, arith}
 use Rattle.std.specs.Prelude.{All, ℤ, Some, None}
 use Rattle.std.specs.BTreeMap.{is_at}
 use Rattle.std.specs.Map.{lookup, remove_entry}
@@ -11,6 +11,7 @@ use Rattle.history_book.specs.Ticket.{TicketView}
 use Rattle.history_book.specs.Runs.{withdrawn_in}
 use Rattle.history_book.specs.TrueBook.{IsTrueActive, IsTrueBook}
 use Rattle.history_book.specs.View.{BookView, active_at, with_start, next_ticket, next_instance, begun_in}
+use Rattle.si_engine.proofs.PlaceLaws.{at_other, at_own}
 use Rattle.si_workers.specs.Freshness.{begun_and_withdrawn}
 
 abbrev Entry : Type 0
@@ -19,29 +20,16 @@ Entry = ℕ × Instance
 abbrev IsBelow : ℕ → Entry → Type 0
 IsBelow k entry = entry.0 < k
 
--- a number is not at a lower one, and is at itself
-not-at : (k n : ℕ) → n < k → is_at (nat_cmp k) n ≡ false
-not-at k n below =
-    let not_less : nat_lt k n ≡ false = grind (arith, nat_tests) in
-    let not_equal : (k == n) ≡ false = grind (arith, nat_tests) in
-    rw (not_less, not_equal) refl
-
-at-itself : (k : ℕ) → is_at (nat_cmp k) k ≡ true
-at-itself k =
-    let not_less : nat_lt k k ≡ false = grind (arith, nat_tests) in
-    let equal : (k == k) ≡ true = grind (arith, nat_tests) in
-    rw (not_less, equal) refl
-
 -- an entry that was put behind lower ones is found, and the others stay where it goes
 found-last : (es : List Entry) (k : ℕ) (i : Instance) → All (IsBelow k) es → lookup (is_at (nat_cmp k)) (es ++ (k, i) ∷ []) ≡ Some i
-found-last [] k i below = rw (at-itself k) refl
+found-last [] k i below = rw (at_own k) refl
 found-last (e ∷ es) k i below =
-    rw (not-at k e.0 (All-head (IsBelow k) e es below)) (found-last es k i (All-tail (IsBelow k) e es below))
+    rw (at_other k e.0 (All-head (IsBelow k) e es below)) (found-last es k i (All-tail (IsBelow k) e es below))
 
 removed-last : (es : List Entry) (k : ℕ) (i : Instance) → All (IsBelow k) es → remove_entry (is_at (nat_cmp k)) (es ++ (k, i) ∷ []) ≡ es
-removed-last [] k i below = rw (at-itself k) refl
+removed-last [] k i below = rw (at_own k) refl
 removed-last (e ∷ es) k i below =
-    rw (not-at k e.0 (All-head (IsBelow k) e es below)) (ap (λ xs. e ∷ xs) (removed-last es k i (All-tail (IsBelow k) e es below)))
+    rw (at_other k e.0 (All-head (IsBelow k) e es below)) (ap (λ xs. e ∷ xs) (removed-last es k i (All-tail (IsBelow k) e es below)))
 
 -- the active instances of a book have lower numbers than the next
 all-below : (v : BookView) → IsTrueBook v → All (IsBelow v.begun) v.active

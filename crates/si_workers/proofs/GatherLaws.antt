@@ -1,11 +1,12 @@
 -- Reports that come in one after another.
-use Rattle.std.proofs.Common.{◌≡◌, ℕ, zero, suc, ◌<◌, ◌≤◌, ◌==◌, Bool, true, false, cond, List, [], ◌∷◌, ◌++◌, length, map, refl, ap, sym, ◌∙◌, subst, arith}
+use Rattle.std.proofs.Common.{◌≡◌, ℕ, zero, suc, ◌≤◌, ◌==◌, Bool, true, false, cond, List, [], ◌∷◌, ◌++◌, length, map, refl, ap, sym, ◌∙◌, subst, arith}
 use Rattle.std.specs.Prelude.{Option, Some, None, flat_map, slice_get, slice_set}
 use Rattle.std.specs.Option.{option_map}
 use Rattle.std.proofs.lemmas.Bool.Decides.{nat_tests}
 use Rattle.std.proofs.lemmas.List.{append-nil, append_assoc, length-map}
 use Rattle.std.proofs.lemmas.List.Concat.{flat_map-append}
 use Rattle.std.proofs.lemmas.Option.{slice_get-map, slice_get_past}
+use Rattle.si_engine.proofs.PlaceLaws.{get-set_other, get-set_same}
 use Rattle.si_workers.specs.KeptAndTold.{Tidings}
 use Rattle.si_workers.specs.Gathered.{with_one, with_all, AreToldMore}
 use Rattle.si_workers.specs.OutcomeIn.{outcome_in}
@@ -16,21 +17,9 @@ use Rattle.si_workers.specs.declared.told.Told.{Told}
 use Rattle.si_workers.specs.declared.worker.Done.{Done}
 use Rattle.si_workers.specs.declared.told.Told.TheVariants.{Nothing, Often}
 
--- ---- places of a list
+-- ---- what is left of a list
 
 module _ {X : Type 0} where
-  get-set : (xs : List X) (i : ℕ) (x : X) → i < length xs → slice_get (slice_set xs i x) i ≡ Some x
-  get-set [] i x within = absurd (omega (arith, within))
-  get-set (y ∷ ys) zero x within = refl
-  get-set (y ∷ ys) (suc i) x within = get-set ys i x (omega (arith, within))
-
-  get-set_other : (xs : List X) (i k : ℕ) (x : X) → (i ≡ k → ⊥) → slice_get (slice_set xs i x) k ≡ slice_get xs k
-  get-set_other [] i k x other = refl
-  get-set_other (y ∷ ys) zero zero x other = absurd (other refl)
-  get-set_other (y ∷ ys) zero (suc k) x other = refl
-  get-set_other (y ∷ ys) (suc i) zero x other = refl
-  get-set_other (y ∷ ys) (suc i) (suc k) x other = get-set_other ys i k x (λ is. other (ap suc is))
-
   -- a loop that takes one more of a list, and one that took all
   pub more_yielded : (yielded rest all left : List X) (x : X) → yielded ++ left ≡ all → left ≡ x ∷ rest → (yielded ++ x ∷ []) ++ rest ≡ all
   more_yielded yielded rest all left x is first = append_assoc yielded (x ∷ []) rest ∙ ap (λ (l : List X). yielded ++ l) (sym first) ∙ is
@@ -93,20 +82,20 @@ told-past ts j o past k = go (j == k) refl
 
 -- a report of a job is told of it
 pub told-one :
-    (before after : List Told) (j : ℕ) (t : Told) (o : JobOutcome) → j < length before → slice_get before j ≡ Some t → after ≡ slice_set before j (with_one t o) →
+    (before after : List Told) (j : ℕ) (t : Told) (o : JobOutcome) → slice_get before j ≡ Some t → after ≡ slice_set before j (with_one t o) →
     AreToldMore before after ((j, o) ∷ [])
-told-one before after j t o within found is k = go (j == k) refl
+told-one before after j t o found is k = go (j == k) refl
   where
     go : (b : Bool) → (j == k) ≡ b → slice_get after k ≡ option_map (with_all (cond b (o ∷ []) [] ++ [])) (slice_get before k)
     go false differ =
         let other : j ≡ k → ⊥ = λ (e : j ≡ k). grind (arith, nat_tests) in
-        ap (λ (ts : List Told). slice_get ts k) is ∙ get-set_other before j k (with_one t o) other ∙ as-before (slice_get before k)
+        ap (λ (ts : List Told). slice_get ts k) is ∙ get-set_other before j k (with_one t o) (λ (e : k ≡ j). other (sym e)) ∙ as-before (slice_get before k)
     go true equal =
         let same : j ≡ k = grind (arith, nat_tests) in
         let v = with_one t o in
         let at : slice_get before k ≡ Some t = sym (ap (slice_get before) same) ∙ found in
         let now : slice_get after k ≡ Some v =
-        ap (λ (ts : List Told). slice_get ts k) is ∙ sym (ap (slice_get (slice_set before j v)) same) ∙ get-set before j v within in
+        ap (λ (ts : List Told). slice_get ts k) is ∙ sym (ap (slice_get (slice_set before j v)) same) ∙ get-set_same before j t v found in
         now ∙ sym (ap (option_map (with_all (o ∷ []))) at)
 
 -- ---- what is kept in the end
