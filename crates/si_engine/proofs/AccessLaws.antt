@@ -23,11 +23,10 @@ use Rattle.prog_paths.proofs.KindsFit.{KindFits}
 use Rattle.prog_paths.proofs.Own.{law_of_times}
 use Rattle.history_book.specs.Dependencies.{start_at, evaluation_at}
 use Rattle.history_book.specs.History.{Instance}
-use Rattle.history_book.proofs.DependencyLaws.{start_at-below}
 use Rattle.si_engine.specs.Robustness.{Grows, HasCommitted, AreConcurrent, IsHistory, FollowsNode}
 use Rattle.si_engine.proofs.GrowLaws.{Has, ChangesAt}
 use Rattle.si_engine.proofs.KindLaws.{access_fits, grows_by, plain_by}
-use Rattle.si_engine.proofs.MissedLaws.{Touched, first_wins as wins}
+use Rattle.si_engine.proofs.MissedLaws.{Touched, first_wins}
 
 -- ---- looks, as tests and as relations
 
@@ -46,18 +45,15 @@ module _ (set : DraftTree) (opening : TableState) (h : List Instance) (is : IsHi
   abbrev pub TouchesAt : ℕ → Cell → Type 0
   TouchesAt n c = ChangesAt set opening h is n c ⊎ KeepsCell (evaluation_at set opening h n).changes c
 
-  pub starts : (n : ℕ) → HasCommitted h n → start_at h n < n
-  starts n one = start_at-below h is.lawful.starts n one
-
   touched : (n : ℕ) (c : Cell) → TouchesAt n c → Touched set opening h n c
   touched n c (inl changed) = or_left _ _ changed
   touched n c (inr kept) = or_right (is_some (change_at (evaluation_at set opening h n).changes c)) _ kept
 
   -- the first committer wins
-  pub first_wins : (i j : ℕ) (c : Cell) → HasCommitted h i → HasCommitted h j → start_at h j < i → i < j →
+  pub first_toucher_wins : (i j : ℕ) (c : Cell) → HasCommitted h i → HasCommitted h j → start_at h j < i → i < j →
       TouchesAt i c → TouchesAt j c → ⊥
-  first_wins i j c one other unseen before mine theirs =
-      wins set opening h is.lawful i j c one other unseen before (touched i c mine) (touched j c theirs)
+  first_toucher_wins i j c one other unseen before mine theirs =
+      first_wins set opening h is.lawful i j c one other unseen before (touched i c mine) (touched j c theirs)
 
   -- two concurrent instances touch no cell both
   pub none_shared : (i j : ℕ) (c : Cell) → HasCommitted h i → HasCommitted h j → i ≢ j → AreConcurrent h i j →
@@ -66,8 +62,8 @@ module _ (set : DraftTree) (opening : TableState) (h : List Instance) (is : IsHi
     where
       cases : (i ≡ j) ⊎ ((i < j) ⊎ (j < i)) → ⊥
       cases (inl e) = differ e
-      cases (inr (inl l)) = first_wins i j c one other both.1 l mine theirs
-      cases (inr (inr l)) = first_wins j i c other one both.0 l theirs mine
+      cases (inr (inl l)) = first_toucher_wins i j c one other both.1 l mine theirs
+      cases (inr (inr l)) = first_toucher_wins j i c other one both.0 l theirs mine
 
   -- ---- accesses that hold a cell
 

@@ -10,10 +10,9 @@ use Rattle.prog_paths.specs.StaticGraph.{Question, HasQuestion, StaticEdge}
 use Rattle.prog_paths.proofs.Edges.{HasQuestion-weaker}
 use Rattle.history_book.specs.Dependencies.{depends}
 use Rattle.history_book.specs.History.{Instance}
-use Rattle.history_book.proofs.DependencyLaws.{DependsOn, depends_tells}
 use Rattle.si_engine.specs.Robustness.{EdgeUnder, HasCommitted, IsHistory, FollowsNode}
 use Rattle.si_engine.proofs.EdgeLaws.{edge_of}
-use Rattle.si_engine.proofs.AccessLaws.{starts}
+use Rattle.si_engine.proofs.MissedLaws.{depends_on}
 
 can_meet : (asks : Question → Kind → Kind → Type 0) (v w : Assignment) (nodes : List Path) (x y : ℕ) →
     HasQuestion asks (λ q a b. MeetAsOwn v w a b) nodes x y → HasQuestion asks (λ q a b. CanMeet a b) nodes x y
@@ -29,14 +28,8 @@ static_edge v w nodes x y (inr (inr (inl q))) = inr (inr (inl (can_meet _ v w no
 static_edge v w nodes x y (inr (inr (inr q))) = inr (inr (inr (can_meet _ w v nodes y x q)))
 
 module _ (set : DraftTree) (opening : TableState) (h : List Instance) (is : IsHistory set opening h) where
-  abbrev Before : ℕ → ℕ → Type 0
-  Before i j = depends set opening h i j ≡ true
-
-  depends_on : (i j : ℕ) → HasCommitted h j → Before i j → DependsOn set opening h i j
-  depends_on i j one d = (depends_tells set opening h i j (starts set opening h is j one)).0 d
-
   -- a dependency is an edge between the nodes that the two follow
   pub step : (i j : ℕ) → HasCommitted h i → HasCommitted h j → (f : FollowsNode set opening h i) →
-      (k : FollowsNode set opening h j) → Before i j → StaticEdge (paths_of set) f.node k.node
+      (k : FollowsNode set opening h j) → depends set opening h i j ≡ true → StaticEdge (paths_of set) f.node k.node
   step i j one other f k first =
-      static_edge f.v k.v (paths_of set) f.node k.node (edge_of set opening h is i j one other f k (depends_on i j other first))
+      static_edge f.v k.v (paths_of set) f.node k.node (edge_of set opening h is i j one other f k (depends_on set opening h is.lawful i j other first))

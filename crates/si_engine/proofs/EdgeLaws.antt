@@ -10,12 +10,13 @@ use Rattle.prog_check.specs.Paths.{paths_of}
 use Rattle.prog_paths.specs.StaticGraph.{Question, AsksReadWrite, AsksWriteRead, AsksWriteWrite, IsInOrder}
 use Rattle.history_book.specs.Dependencies.{start_at}
 use Rattle.history_book.specs.History.{Instance}
-use Rattle.history_book.proofs.DependencyLaws.{Looks, Changes, DependsOn, depends_tells}
+use Rattle.history_book.proofs.DependencyLaws.{Looks, Changes, DependsOn}
 use Rattle.history_book.proofs.DependencyRelations.{WriteWriteBy, WriteReadBy, ReadWriteBy}
 use Rattle.si_engine.specs.Robustness.{Grows, HasCommitted, IsHistory, FollowsNode, EdgeUnder, LawOfStaticEdges}
 use Rattle.si_engine.proofs.GrowLaws.{Has, ChangesAt}
 use Rattle.si_engine.proofs.InsertLaws.{law_of_inserts, law_of_single_inserts}
-use Rattle.si_engine.proofs.AccessLaws.{HoldsLook, HoldsChange, starts, Holds, looked, changed_in, grow_at, plain_at, question_of, asked}
+use Rattle.si_engine.proofs.AccessLaws.{HoldsLook, HoldsChange, Holds, looked, changed_in, grow_at, plain_at, question_of, asked}
+use Rattle.si_engine.proofs.MissedLaws.{depends_on, starts}
 
 -- the question the other way round
 abbrev turned : Question → Question
@@ -83,7 +84,7 @@ module _ (set : DraftTree) (opening : TableState) (h : List Instance) (is : IsHi
 
         there : Grows set c.table → Has set opening h is (start_at h j) c
         there grow =
-            let low = starts set opening h is j other in
+            let low = starts set opening h is.lawful j other in
             let last = other.1 in
             (law_of_inserts set opening h is i c one grow change (start_at h j) (omega arith)).1 w.seen
 
@@ -118,7 +119,7 @@ module _ (set : DraftTree) (opening : TableState) (h : List Instance) (is : IsHi
         -- a row that the first one's snapshot has, the second did not add
         seen_then_added : Grows set c.table → Has set opening h is (start_at h i) c → ⊥
         seen_then_added grow has =
-            let low = starts set opening h is i one in
+            let low = starts set opening h is.lawful i one in
             let last = one.1 in
             let from = (law_of_inserts set opening h is j c other grow change (start_at h i) (omega arith)).0 has in
             let unseen = w.unseen in
@@ -152,4 +153,4 @@ module _ (set : DraftTree) (opening : TableState) (h : List Instance) (is : IsHi
 pub law_of_static_edges : LawOfStaticEdges
 law_of_static_edges set opening h is i j one other test mine theirs =
     edge_of set opening h is i j one other mine theirs
-    ((depends_tells set opening h i j (starts set opening h is j other)).0 test)
+    (depends_on set opening h is.lawful i j other test)

@@ -8,7 +8,8 @@ use Rattle.history_book.specs.Dependencies.{start_at}
 use Rattle.history_book.specs.History.{Instance}
 use Rattle.si_engine.specs.Robustness.{HasCommitted, IsHistory, FollowsNode, Grows, LawOfInserts, LawOfSingleInserts}
 use Rattle.si_engine.proofs.GrowLaws.{Has, ChangesAt, stays, added, appeared}
-use Rattle.si_engine.proofs.AccessLaws.{HoldsChange, starts, first_wins, changed_in, plain_at}
+use Rattle.si_engine.proofs.AccessLaws.{HoldsChange, first_toucher_wins, changed_in, plain_at}
+use Rattle.si_engine.proofs.MissedLaws.{starts}
 use Rattle.si_engine.proofs.NodeLaws.{law_of_nodes}
 
 module _ (set : DraftTree) (opening : TableState) (h : List Instance) (is : IsHistory set opening h) where
@@ -35,7 +36,7 @@ module _ (set : DraftTree) (opening : TableState) (h : List Instance) (is : IsHi
 
         go : (start_at h j < n) ⊎ (n ≤ start_at h j) → ⊥
         go (inr seen) =
-            let low = starts set opening h is j one in
+            let low = starts set opening h is.lawful j one in
             let last = one.1 in
             lacked (stays set opening h is n (start_at h j) c grow seen (omega arith) has)
         go (inl after) =
@@ -45,7 +46,7 @@ module _ (set : DraftTree) (opening : TableState) (h : List Instance) (is : IsHi
             (subst (λ k. Has set opening h is k c) (sym apart) has) in
             let above = t.1 in
             let below = t.2 in
-            first_wins set opening h is t.0 j c t.3 one above (omega arith) (inl t.4) (inl change)
+            first_toucher_wins set opening h is t.0 j c t.3 one above (omega arith) (inl t.4) (inl change)
 
     from_commit : (n : ℕ) → n ≤ length h → Has set opening h is n c → j ≤ n
     from_commit n within has = go (cases_lt n j)

@@ -57,10 +57,10 @@ module _ (set : DraftTree) (opening : TableState) (h : List Instance) (lawful : 
   abbrev Before : ℕ → ℕ → Type 0
   Before i j = depends set opening h i j ≡ true
 
-  starts : (n : ℕ) → HasCommitted h n → start_at h n < n
+  pub starts : (n : ℕ) → HasCommitted h n → start_at h n < n
   starts n one = start_at-below h lawful.starts n one
 
-  depends_on : (i j : ℕ) → HasCommitted h j → Before i j → DependsOn set opening h i j
+  pub depends_on : (i j : ℕ) → HasCommitted h j → Before i j → DependsOn set opening h i j
   depends_on i j one d = (depends_tells set opening h i j (starts j one)).0 d
 
   misses : (i j : ℕ) → AreConcurrent h i j →

@@ -15,12 +15,12 @@ use Rattle.prog_tree.proofs.Elements.{contains_at}
 use Rattle.prog_paths.proofs.Own.{law_of_own_unknowns, law_of_covers}
 use Rattle.history_book.specs.Dependencies.{start_at}
 use Rattle.history_book.specs.History.{Instance}
-use Rattle.history_book.proofs.DependencyLaws.{Looks, Changes, DependsOn, depends_tells}
+use Rattle.history_book.proofs.DependencyLaws.{Looks, Changes, DependsOn}
 use Rattle.history_book.proofs.DependencyRelations.{ReadWriteBy}
 use Rattle.si_engine.specs.Robustness.{HasCommitted, AreConcurrent, IsHistory, FollowsNode, LawOfVulnerableEdges}
 use Rattle.si_engine.proofs.EdgeLaws.{asked_read_write}
-use Rattle.si_engine.proofs.AccessLaws.{TouchesAt, Holds, starts, none_shared, meets, asked_with}
-use Rattle.si_engine.proofs.MissedLaws.{misses_depends, sees_overwritten}
+use Rattle.si_engine.proofs.AccessLaws.{TouchesAt, Holds, none_shared, meets, asked_with}
+use Rattle.si_engine.proofs.MissedLaws.{depends_on, misses_depends, sees_overwritten}
 
 -- accesses that are the same single cell have one cell
 same_cell : (v w : Assignment) (a b : Access) → AreSameCell v a w b → cell_under v a ≡ cell_under w b
@@ -87,8 +87,6 @@ module _ (set : DraftTree) (opening : TableState) (h : List Instance) (is : IsHi
 
 pub law_of_vulnerable_edges : LawOfVulnerableEdges
 law_of_vulnerable_edges set opening h is i j one other differ both test mine theirs =
-    let d =
-    (depends_tells set opening h i j (starts set opening h is j other)).0
-    (misses_depends set opening h i j differ test) in
+    let d = depends_on set opening h is.lawful i j other (misses_depends set opening h i j differ test) in
     vulnerable_of set opening h is i j one other differ both mine theirs
     (by_look set opening h is i j one other differ both d)
