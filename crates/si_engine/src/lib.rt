@@ -31,7 +31,7 @@ pub use input::script::{Script, read_script};
 pub use input::source::{DeviceFault, InputFault, Source, read_whole};
 pub use limits::{MAX_EVENTS, MAX_INPUT_BYTES, MAX_INSTANCE, MAX_READS, MAX_STEPS};
 pub use output::finding::{Serializability, push_findings_before, push_rows};
-pub use output::sink::{Sink, write_whole};
+pub use output::sink::{Sink, write_or, write_whole};
 pub use port::Port;
 pub use robust::laws::{
     concurrent_dependencies_are_vulnerable, cycles_are_dangerous, cycles_end_in_two_missed_changes,

@@ -1,11 +1,10 @@
 //! Runs of scripts: from the bytes of a script to the lines of its replies, its rows and the end.
-ghost use Rattle.std.specs.Prelude.{◌≡◌, ◌≤◌, ◌+◌, [], false, true, Err, string_bytes, IfOk, OnOk, OnErr};
+ghost use Rattle.std.specs.Prelude.{◌≡◌, ◌≤◌, ◌+◌, [], false, true, string_bytes, IfOk, OnOk, OnErr};
 ghost use Rattle.prog_tree.specs.Tree.{draft_tree};
 ghost use Rattle.si_engine.specs.Machine.{machine_after};
 ghost use Rattle.si_engine.specs.Sources.{ForInput};
 ghost use Rattle.si_engine.specs.Runs.{event_lines, run_lines, AddsLines, AddsFirst, AddsRun, IsRunOf, IsScriptRun, IsUnreadRun};
 ghost use Rattle.si_engine.specs.View.{StaysOver};
-ghost use Rattle.si_engine.specs.Writing.{IsJust, WritesOr};
 
 use crate::engine::Engine;
 use crate::event::Event;
@@ -15,7 +14,7 @@ use crate::input::source::Source;
 use crate::limits::MAX_READS;
 use crate::output::finding::{Serializability, push_findings_before};
 use crate::output::printed::push_reply_line;
-use crate::output::sink::{Sink, write_whole};
+use crate::output::sink::{Sink, write_or};
 use crate::witness::{NoWitness, Witness};
 use prog_check::ProgramSet;
 use prog_tree::Draft;
@@ -88,21 +87,6 @@ fn run_source<S: Source, W: Witness>(
     Ok(push_lines(alloc, set, script, out, witness)?)
 }
 
-/// Writes bytes, and answers with the end that is given, or that the sink failed.
-pub(crate) fn write_end<K: Sink>(
-    sink: &mut K,
-    bytes: &[u8],
-    ended: Result<Serializability, PartFault>,
-) -> Result<Serializability, PartFault>
-    ensures { WritesOr (Err PartFault.WriteFault) (IsJust bytes.now ended)
-        (K.has_failed sink.new) (K.taken sink.old) (K.taken sink.new) result }
-{
-    match write_whole(sink, bytes) {
-        Ok(()) => ended,
-        Err(_) => Err(PartFault::WriteFault),
-    }
-}
-
 /// As `run_script`, before a witness, which is told each reply and the cycle.
 pub fn run_script_before<S: Source, K: Sink, W: Witness>(
     alloc: Global,
@@ -117,7 +101,7 @@ pub fn run_script_before<S: Source, K: Sink, W: Witness>(
 {
     let mut lines = String::new(alloc);
     let ended = run_source(alloc, set, source, &mut lines, witness);
-    write_end(sink, lines.as_bytes(), ended)
+    write_or(sink, lines.as_bytes(), ended, Err(PartFault::WriteFault))
 }
 
 /// Reads all of a source as a script, and runs it on a set. A sink gets a line for each event, one

@@ -18,7 +18,7 @@ use crate::input::{ReadSet, read_text_and_part};
 use crate::sentences::kept::Kept;
 use crate::sentences::words::explain;
 use crate::status::Status;
-use si_engine::{MAX_READS, Sink, Source, read_whole, write_whole};
+use si_engine::{MAX_READS, Sink, Source, read_whole, write_or};
 use std::alloc::Global;
 use std::thread::Threads;
 
@@ -100,10 +100,7 @@ pub fn write_last<K: Sink>(sink: &mut K, bytes: &[u8], status: Status) -> Status
     ensures { WritesWithStatus (IsJust bytes.now status)
         (K.has_failed sink.new) (K.taken sink.old) (K.taken sink.new) result }
 {
-    match write_whole(sink, bytes) {
-        Ok(()) => status,
-        Err(_) => Status::Faulty,
-    }
+    write_or(sink, bytes, status, Status::Faulty)
 }
 
 // Writes the line of a fault, alone.

@@ -1,7 +1,7 @@
 //! Where the output goes, and how it is written whole.
 ghost use Rattle.std.specs.Prelude.{◌≡◌, ◌<◌, ◌≤◌, ◌↔◌, ℕ, Bool, List, Option, None, true, length, IsErr, IfOk, OnOk, OnErr};
 ghost use Rattle.std.specs.Io.KnownBytes.{Appends, WriteAppends};
-ghost use Rattle.si_engine.specs.Writing.{AppendsFront};
+ghost use Rattle.si_engine.specs.Writing.{AppendsFront, IsJust, WritesOr};
 
 use crate::input::source::DeviceFault;
 
@@ -41,4 +41,15 @@ pub fn write_whole<K: Sink>(sink: &mut K, bytes: &[u8]) -> Result<(), DeviceFaul
         written += count;
     }
     Ok(())
+}
+
+/// Writes bytes, and answers with the end that is given, or with the other where the sink failed.
+pub fn write_or<K: Sink, E: Copy>(sink: &mut K, bytes: &[u8], ended: E, lost: E) -> E
+    ensures { WritesOr lost (IsJust bytes.now ended)
+        (K.has_failed sink.new) (K.taken sink.old) (K.taken sink.new) result }
+{
+    match write_whole(sink, bytes) {
+        Ok(()) => ended,
+        Err(_) => lost,
+    }
 }

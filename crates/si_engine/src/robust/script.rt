@@ -13,9 +13,8 @@ use crate::input::source::Source;
 use crate::limits::MAX_READS;
 use crate::output::finding::{Serializability, push_rows};
 use crate::output::printed::{push_last_line, push_reply_line};
-use crate::output::sink::Sink;
+use crate::output::sink::{Sink, write_or};
 use crate::robust::run::{Outcome, run_robust_before};
-use crate::run::write_end;
 use crate::witness::Witness;
 use prog_tree::{Draft, TableDecl};
 use robust_cert::RobustSet;
@@ -114,5 +113,5 @@ pub fn run_robust_script_before<S: Source, K: Sink, W: Witness>(
 {
     let mut lines = String::new(alloc);
     let ended = run_source(alloc, set, source, &mut lines, witness);
-    write_end(sink, lines.as_bytes(), ended)
+    write_or(sink, lines.as_bytes(), ended, Err(PartFault::WriteFault))
 }

@@ -13,4 +13,4 @@ returns-clause-run g c =
     let ended = c.run_source-ended.result in
     let meant = run_replies set left failed _ ended c.run_source-ended.ensures.run c.run_source-ended.ensures.unread in
     writes_just (Err fault.WriteFault) (IsOrderedReply set left failed) c.as_bytes.result.now ended _ _ _ _
-    (subst (λ (lines : List ℕ). IsOrderedReply set left failed lines ended) (sym c.as_bytes.ensures.value) (meant, c.run_source-ended.ensures.order)) c.write_end.ensures
+    (subst (λ (lines : List ℕ). IsOrderedReply set left failed lines ended) (sym c.as_bytes.ensures.value) (meant, c.run_source-ended.ensures.order)) c.write_or.ensures
