@@ -5,7 +5,7 @@ ghost use Rattle.sirob.specs.Stops.{write_lost};
 
 use crate::command_fault::CommandFault;
 use crate::status::Status;
-use si_engine::{PartFault, Sink, write_whole};
+use si_engine::{PartFault, Sink, write_or};
 
 /// Writes lines, and answers with the end that is given, or that the sink failed.
 pub fn write_lines<K: Sink>(
@@ -16,8 +16,6 @@ pub fn write_lines<K: Sink>(
     ensures { WritesOr (Err write_lost) (IsJust lines.now ended)
         (K.has_failed sink.new) (K.taken sink.old) (K.taken sink.new) result }
 {
-    match write_whole(sink, lines) {
-        Ok(()) => ended,
-        Err(_) => Err(CommandFault::Part(PartFault::WriteFault)),
-    }
+    let lost = CommandFault::Part(PartFault::WriteFault);
+    write_or(sink, lines, ended, Err(lost))
 }
