@@ -64,7 +64,7 @@ fn apply_events<W: Witness>(
         let reply = engine.apply(event)?;
         witness.answered(event, &reply, engine.book());
         note_commit(&mut committed, event, &reply)?;
-        replies.push(reply)?;
+        replies.push_reserved(reply);
     }
     Ok((replies, committed))
 }

@@ -1,4 +1,4 @@
-use Rattle.std.proofs.Common.{◌+◌, [], ◌∷◌, ◌++◌, ◌∙◌, ap, sym, drop, append_assoc}
+use Rattle.std.proofs.Common.{◌+◌, [], ◌∷◌, ◌++◌, ◌∙◌, ap, sym, drop, append_assoc, arith}
 use Rattle.std.proofs.lemmas.List.{drop_more}
 use Rattle.std.specs.List.{zip}
 use Rattle.prog_tree.specs.Tree.{draft_tree}
@@ -6,6 +6,9 @@ use Rattle.si_engine.specs.Headline.{commit_in, commits_said}
 use Rattle.si_engine.specs.Machine.{machine_step, machine_after, replies_of}
 use Rattle.si_engine.proofs.RunLaws.{first_after, first_reply, first_commit}
 use Rattle.si_engine.proofs.robust.run.apply_events.Goals as goal
+
+pub push_reserved-requires : goal.push_reserved-requires
+push_reserved-requires g c = omega (arith, c.loop-event-test.true, c.loop-event.invariant.one_each, c.loop-event.invariant.room)
 
 pub loop-event-preserved : goal.loop-event-preserved
 loop-event-preserved g c =
@@ -33,11 +36,13 @@ loop-event-preserved g c =
           ∙ (ap (λ events. c.loop-event.replies.items ++ replies_of set opening events machine) parts
           ∙ (ap (λ replies. c.loop-event.replies.items ++ replies) (first_reply set opening event later machine next reply step)
           ∙ (sym (append_assoc c.loop-event.replies.items (reply ∷ []) (replies_of set opening later next))
-          ∙ ap (λ items. items ++ replies_of set opening later next) (sym c.in_ok-push.ensures.items))));
+          ∙ ap (λ items. items ++ replies_of set opening later next) (sym c.push_reserved.ensures.items))));
       committed =
           before.committed
           ∙ (ap (λ events. c.loop-event.committed.items ++ commits_said (zip events (replies_of set opening events machine))) parts
           ∙ (ap (λ more. c.loop-event.committed.items ++ more) (first_commit set opening event later machine next reply step)
           ∙ (sym (append_assoc c.loop-event.committed.items (commit_in (event, reply)) (commits_said (zip later (replies_of set opening later next))))
           ∙ ap (λ items. items ++ commits_said (zip later (replies_of set opening later next))) (sym c.in_ok-note_commit.ensures))));
+      one_each = omega (arith, c.push_reserved.ensures.len, c.loop-event.invariant.one_each);
+      room = omega (arith, c.push_reserved.ensures.capacity, c.loop-event.invariant.room);
     }

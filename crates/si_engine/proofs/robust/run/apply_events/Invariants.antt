@@ -1,11 +1,11 @@
-use Rattle.std.proofs.Common.{◌≡◌, ◌++◌, drop}
+use Rattle.std.proofs.Common.{◌≡◌, ◌≤◌, ◌++◌, drop, length, vec_len, vec_capacity}
 use Rattle.std.specs.List.{zip}
 use Rattle.prog_tree.specs.Tree.{draft_tree}
 use Rattle.si_engine.specs.Headline.{commits_said}
 use Rattle.si_engine.specs.Machine.{machine_after, replies_of}
 use Rattle.si_engine.proofs.robust.run.apply_events.Given as goal
 
--- what is kept so far, and what the events that are left give, are the whole
+-- what is kept so far, and what the events that are left give, are the whole, and each reply has room
 abbrev pub invariant-loop-event : goal.invariant-loop-event
 invariant-loop-event g l =
     let set = draft_tree l.fn.engine.set in
@@ -20,4 +20,6 @@ invariant-loop-event g l =
       replies : all_replies ≡ l.replies.items ++ replies_later;
       committed : commits_said (zip l.events all_replies)
           ≡ l.committed.items ++ commits_said (zip later replies_later);
+      one_each : vec_len l.replies ≡ l.event-index;
+      room : length l.events ≤ vec_capacity l.replies;
     }
