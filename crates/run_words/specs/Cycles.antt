@@ -21,9 +21,9 @@ abbrev pub call_text : DraftTree → HistoryRow → List ℕ
 call_text set row = program_name set row.program ++ bracketed row.args
 
 -- a number that is of no commit has no call
-abbrev pub call_of : DraftTree → Option HistoryRow → List ℕ
-call_of set None = []
-call_of set (Some row) = call_text set row
+abbrev pub call_or_none : DraftTree → Option HistoryRow → List ℕ
+call_or_none set None = []
+call_or_none set (Some row) = call_text set row
 
 -- what the first of two commits did, before the number of the second
 abbrev pub ahead_text : DraftTree → Option Reason → List ℕ
@@ -49,7 +49,7 @@ commit_line set call reason number next =
 
 abbrev pub line_text : BookView → (number next : ℕ) → List ℕ
 line_text book number next =
-    commit_line (draft_tree book.set) (call_of (draft_tree book.set) (nth_row book.rows number))
+    commit_line (draft_tree book.set) (call_or_none (draft_tree book.set) (nth_row book.rows number))
     (told_reason (traces_in book) number next) number next
 
 -- the first of some numbers, or another where there is none

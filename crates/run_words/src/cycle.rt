@@ -1,7 +1,7 @@
 //! The cycle that the commits of a book form, in words.
 ghost use Rattle.std.specs.Prelude.{◌≡◌, ◌++◌, IfOk, OnOk, option_copied, string_bytes};
 ghost use Rattle.prog_tree.specs.Tree.{draft_tree};
-ghost use Rattle.run_words.specs.Cycles.{ahead_text, behind_text, call_of, call_text, commit_line, cycle_text, first_or, line_text, lines_text};
+ghost use Rattle.run_words.specs.Cycles.{ahead_text, behind_text, call_or_none, call_text, commit_line, cycle_text, first_or, line_text, lines_text};
 
 use fault_words::{cell_text, program_name, region_text};
 use history_book::{Book, HistoryRow, Reason};
@@ -19,9 +19,13 @@ fn call_text(alloc: Global, set: &ProgramSet, row: &HistoryRow) -> Result<String
 }
 
 // The call of an instance, where there is one.
-fn call_of(alloc: Global, set: &ProgramSet, row: Option<&HistoryRow>) -> Result<String, AllocError>
+fn call_or_none(
+    alloc: Global,
+    set: &ProgramSet,
+    row: Option<&HistoryRow>,
+) -> Result<String, AllocError>
     ensures { IfOk result (λ text. string_bytes text
-        ≡ call_of (draft_tree set.now) (option_copied row.entry)) }
+        ≡ call_or_none (draft_tree set.now) (option_copied row.entry)) }
 {
     match row {
         Some(row) => call_text(alloc, set, row),
@@ -100,7 +104,7 @@ fn line_text(
     ensures { IfOk result (λ line. string_bytes line ≡ line_text book.now first second) }
 {
     let set = book.set();
-    let call = call_of(alloc, set, book.nth_commit(first as u64))?;
+    let call = call_or_none(alloc, set, book.nth_commit(first as u64))?;
     let reason = book.reason(first as u64, second as u64);
     commit_line(alloc, set, &call, reason, first, second)
 }

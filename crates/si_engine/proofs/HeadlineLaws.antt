@@ -19,7 +19,7 @@ use Rattle.si_engine.specs.declared.robust.run.Outcome.{Outcome}
 use Rattle.si_engine.specs.Headline.{Exchange, IsReadyWith, IsCommittedAs, committed_at, commits_said, run_of, RunsAlong, rows_of_machine, Headline}
 use Rattle.si_engine.specs.Machine.{Machine, new_machine, replies_of, machine_after}
 use Rattle.si_engine.specs.View.{EngineView}
-use Rattle.si_engine.proofs.ToldLaws.{call_of, IsTold, IsToldCommit, all_told}
+use Rattle.si_engine.proofs.ToldLaws.{call_of_instance, IsTold, IsToldCommit, all_told}
 
 -- the element at a place of a list
 there_is : {X : Type 0} (xs : List X) (k : ℕ) → k < length xs → (x : X) × (slice_get xs k ≡ Some x)
@@ -84,11 +84,11 @@ module _ (set : DraftTree) (opening : TableState) (events : List Event) (o : Out
         let b = found.0 in
         let c = found.2 in
         let at_number : nth_instance history (suc k) ≡ Some b = found.1 in
-        let same : run_found set (nth_instance history (suc k)) m ≡ run_of set (call_of b) m = ap (λ x. run_found set x m) at_number in
+        let same : run_found set (nth_instance history (suc k)) m ≡ run_of set (call_of_instance b) m = ap (λ x. run_found set x m) at_number in
         let did : evaluation_at set opening history (suc k) ≡ evaluation set opening history b =
         ap (λ x. run_found set x (state_after set opening history (start_found x))) at_number in
         let replies = ap (λ (e : Evaluation). e.replies) (sym same) ∙ runs.0.1 ∙ ap (λ (e : Evaluation). e.replies) did in (
-          call_of b,
+          call_of_instance b,
           (
             ap (λ (e : Evaluation). e.ending) (sym same) ∙ runs.0.0,
             record {
@@ -98,7 +98,7 @@ module _ (set : DraftTree) (opening : TableState) (events : List Event) (o : Out
               ready = subst (IsReadyWith said c.instance) (sym replies) c.ready;
             },
             along (placed ++ suc k ∷ []) ns (subst (λ l. is_each_once (length history) l ≡ true) (sym (append_assoc placed (suc k ∷ []) ns)) once)
-                (changed m (run_of set (call_of b) m).changes.cells)
+                (changed m (run_of set (call_of_instance b) m).changes.cells)
                 (subst (λ (e : Evaluation). Runs set opening history ns (changed m e.changes.cells)) same runs.1),
           ),
         )

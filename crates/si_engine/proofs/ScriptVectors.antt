@@ -7,7 +7,7 @@ use Rattle.si_engine.specs.declared.event.Event.TheVariants as e
 use Rattle.si_engine.specs.declared.input.line_fault.LineFault.TheVariants as f
 use Rattle.si_engine.specs.Lines.{lines_of, words_of}
 use Rattle.si_engine.specs.Numbers.{i64_of, number_between}
-use Rattle.si_engine.specs.Commands.{line_command, command_of, row_command, call_of, begin_command, begin_at_command, step_command, one_instance, commit_command, abort_command, vacuum_command}
+use Rattle.si_engine.specs.Commands.{line_command, command_of, row_command, program_call, begin_command, begin_at_command, step_command, one_instance, commit_command, abort_command, vacuum_command}
 use Rattle.si_engine.specs.RowLines.{row_line_of}
 use Rattle.si_engine.specs.Sayings.{sayings_from}
 use Rattle.si_engine.specs.Script.{script_of, room_fault}
@@ -76,31 +76,31 @@ unfolding draft line_command command_of row_command row_line_of
 row = refl
 
 begin : line_command draft 1 (codes "begin Set 1 -0 7") ≡ Ok (Event (e.Begin 1 (pos 1 ∷ pos 0 ∷ pos 7 ∷ [])))
-unfolding draft line_command command_of begin_command call_of
+unfolding draft line_command command_of begin_command program_call
 begin = refl
 
 begin_at : line_command draft 1 (codes "begin-at 18446744073709551615 Set 1 -0") ≡ Ok (Event (e.BeginAt (2 ^ 64 - 1) 1 (pos 1 ∷ pos 0 ∷ [])))
-unfolding draft line_command command_of begin_at_command call_of
+unfolding draft line_command command_of begin_at_command program_call
 begin_at = refl
 
 begin_at_no_number : line_command draft 2 (codes "begin-at Look 7") ≡ Err (f.BadLine 2)
-unfolding draft line_command command_of begin_at_command call_of
+unfolding draft line_command command_of begin_at_command program_call
 begin_at_no_number = refl
 
 begin_at_nothing : line_command draft 2 (codes "begin-at 0") ≡ Err (f.BadLine 2)
-unfolding draft line_command command_of begin_at_command call_of
+unfolding draft line_command command_of begin_at_command program_call
 begin_at_nothing = refl
 
 begin_past_the_end : line_command draft 2 (codes "begin-at 18446744073709551616 Look 1") ≡ Err (f.BadLine 2)
-unfolding draft line_command command_of begin_at_command call_of
+unfolding draft line_command command_of begin_at_command program_call
 begin_past_the_end = refl
 
 begin_at_no_name : line_command draft 2 (codes "begin-at 0 Lok 1") ≡ Err (f.UnknownName 2)
-unfolding draft line_command command_of begin_at_command call_of
+unfolding draft line_command command_of begin_at_command program_call
 begin_at_no_name = refl
 
 bad_argument_first : line_command draft 2 (codes "begin-at 0 Lok x") ≡ Err (f.BadLine 2)
-unfolding draft line_command command_of begin_at_command call_of
+unfolding draft line_command command_of begin_at_command program_call
 bad_argument_first = refl
 
 one_step : line_command draft 1 (codes "step 5") ≡ Ok (Steps 5 1)
@@ -156,11 +156,11 @@ unfolding draft line_command command_of row_command row_line_of
 unknown_table = refl
 
 no_name : line_command draft 2 (codes "begin 7") ≡ Err (f.UnknownName 2)
-unfolding draft line_command command_of begin_command call_of
+unfolding draft line_command command_of begin_command program_call
 no_name = refl
 
 past_ascii : line_command draft 2 (codes "begin " ++ 200 ∷ []) ≡ Err (f.UnknownName 2)
-unfolding draft line_command command_of begin_command call_of
+unfolding draft line_command command_of begin_command program_call
 past_ascii = refl
 
 one_key_of_two : line_command draft 2 (codes "row e 1 = 3") ≡ Err (f.WrongKeys 2)
@@ -176,7 +176,7 @@ script : script_of draft (codes "# rows\nrow e 7 1 = 9\r\nrow t 2 = 5\n\nrow t 1
   rows = (record { table = 0; first = pos 1; second = pos 0 }, pos 4) ∷ (record { table = 0; first = pos 2; second = pos 0 }, pos 5) ∷ (record { table = 1; first = pos 7; second = pos 1 }, pos 9) ∷ [];
   events = e.Begin 0 (pos 1 ∷ []) ∷ e.Step 0 ∷ e.Step 0 ∷ e.Commit 0 ∷ [];
 })
-unfolding draft sayings_from line_command command_of row_command row_line_of begin_command call_of step_command one_instance commit_command
+unfolding draft sayings_from line_command command_of row_command row_line_of begin_command program_call step_command one_instance commit_command
 script = refl
 
 row_behind_a_vacuum : script_of draft (codes "vacuum\nabort 0\nrow t 2 = 1") ≡ Err (f.LateRow 3)

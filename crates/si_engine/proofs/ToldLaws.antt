@@ -61,8 +61,8 @@ begins_alone (event.Commit i) call r asks = absurd (cc)
 begins_alone (event.Abort i) call r asks = absurd (cc)
 begins_alone event.Vacuum call r asks = absurd (cc)
 
-abbrev pub call_of : Instance → Call
-call_of i = record { program = i.program; args = i.args }
+abbrev pub call_of_instance : Instance → Call
+call_of_instance i = record { program = i.program; args = i.args }
 
 module _ (draft : DraftTree) (opening : TableState) where
   -- what an instance does on the state that it sees
@@ -74,7 +74,7 @@ module _ (draft : DraftTree) (opening : TableState) where
   module _ (said : List Exchange) (s : Machine) where
     -- an active instance: the call that began it; that it is ready, where it is; and no replies but its own
     pub record IsToldActive (i : ℕ) (a : Active) : Type 0 where
-      pub begun : IsBegunBy said i (call_of a.instance)
+      pub begun : IsBegunBy said i (call_of_instance a.instance)
       pub start : a.instance.start ≤ length s.history
       pub ready : a.ready ≡ true → Contains said (event.Step i, reply.Ready (done s a.instance).replies)
       pub never_others :
@@ -85,7 +85,7 @@ module _ (draft : DraftTree) (opening : TableState) where
       pub instance : ℕ
       pub ended : slice_get s.begun instance ≡ Some None
       pub committed : IsCommittedAs said instance (suc k)
-      pub begun : IsBegunBy said instance (call_of b)
+      pub begun : IsBegunBy said instance (call_of_instance b)
       pub ready : IsReadyWith said instance (done s b).replies
       pub start : b.start ≤ length s.history
 
@@ -151,7 +151,7 @@ module _ (draft : DraftTree) (opening : TableState) where
 
           still : IsToldActive more t i (record b { instance = a.instance })
           still = record {
-            begun = still_begun i (call_of a.instance) before.begun;
+            begun = still_begun i (call_of_instance a.instance) before.begun;
             start = let low = before.start in omega (arith, low, longer);
             ready = λ is_ready. subst (λ r. Contains more (event.Step i, reply.Ready r)) (sym replies_stay) (ready is_ready);
             never_others = λ others there. others_are others (told_before _ there) ∙ sym replies_stay;
@@ -164,7 +164,7 @@ module _ (draft : DraftTree) (opening : TableState) where
         instance = before.instance;
         ended = ended before.instance before.ended;
         committed = kept _ before.committed;
-        begun = still_begun before.instance (call_of b) before.begun;
+        begun = still_begun before.instance (call_of_instance b) before.begun;
         ready = subst (IsReadyWith more before.instance) (sym replies_stay) (record {
           told = kept _ before.ready.told;
           never_others = λ others there. others_are others (told_before _ there);
@@ -291,7 +291,7 @@ module _ (draft : DraftTree) (opening : TableState) where
 
     begun_told : IsTold (said ++ beginning ∷ []) with_one
     begun_told =
-        answered said beginning s with_one told tells_nothing (begins_alone begin (call_of begins) beginning.1 asks) no_commit_there refl
+        answered said beginning s with_one told tells_nothing (begins_alone begin (call_of_instance begins) beginning.1 asks) no_commit_there refl
         (λ i b at. active_at i b (get-push s.begun (Some (at_begin begins)) (Some b) i at))
         (λ i at. get-longer s.begun (Some (at_begin begins)) None i at)
         (omega (arith, length-append s.begun (Some (at_begin begins) ∷ [])))
@@ -370,7 +370,7 @@ module _ (draft : DraftTree) (opening : TableState) where
       committed =
           let number : length s.history + 1 ≡ suc k = omega (arith, is) in
           subst (λ n. IsCommittedAs all i n) number (newest said committing);
-      begun = still_begun said committing i (call_of a.instance) before.begun;
+      begun = still_begun said committing i (call_of_instance a.instance) before.begun;
       ready = subst (IsReadyWith all i) (sym replies_stay) (record {
         told = kept said committing _ (before.ready is_ready);
         never_others = λ others there. go others (told_before said committing _ there);

@@ -23,9 +23,9 @@ row_command draft line words = do
   Ok (says.Row row)
 
 -- PROGRAM ARG*: a program by its name, and its arguments
-unfoldable pub call_of : DraftTree → (line : ℕ) → List (List ℕ) → Result ProgramCall LineFault
-call_of draft line [] = Err (BadLine line)
-call_of draft line (name ∷ words) = do
+unfoldable pub program_call : DraftTree → (line : ℕ) → List (List ℕ) → Result ProgramCall LineFault
+program_call draft line [] = Err (BadLine line)
+program_call draft line (name ∷ words) = do
   args ← ok_or (numbers_of words) (BadLine line)
   program ← ok_or (number_named (program_names draft) name) (UnknownName line)
   Ok (record { program = program; args = args })
@@ -33,7 +33,7 @@ call_of draft line (name ∷ words) = do
 -- the words behind `begin`: PROGRAM ARG*
 unfoldable pub begin_command : DraftTree → (line : ℕ) → List (List ℕ) → Result Command LineFault
 begin_command draft line words = do
-  call ← call_of draft line words
+  call ← program_call draft line words
   Ok (says.Event (Begin call.program call.args))
 
 -- the words behind `begin-at`: START PROGRAM ARG*
@@ -41,7 +41,7 @@ unfoldable pub begin_at_command : DraftTree → (line : ℕ) → List (List ℕ)
 begin_at_command draft line [] = Err (BadLine line)
 begin_at_command draft line (start ∷ words) = do
   number ← ok_or (u64_of start) (BadLine line)
-  call ← call_of draft line words
+  call ← program_call draft line words
   Ok (says.Event (BeginAt number call.program call.args))
 
 -- the number of an instance

@@ -54,13 +54,13 @@ is_aborted_by cause (end.Aborted by) = is_same_cause cause by
 is_aborted_by cause other = false
 
 -- what holds of the one outcome of a job
-abbrev pub told : (JobEnd → Bool) → Option JobOutcome → Bool
-told test None = false
-told test (Some outcome) = test outcome.job_end
+abbrev pub outcome_passes : (JobEnd → Bool) → Option JobOutcome → Bool
+outcome_passes test None = false
+outcome_passes test (Some outcome) = test outcome.job_end
 
 -- the outcome names the commit of the number
 abbrev pub names : ℕ → Option JobOutcome → Bool
-names number = told (is_commit number)
+names number = outcome_passes (is_commit number)
 
 -- how many jobs name the commit of a number
 abbrev pub commits_told : ℕ → Tidings → ℕ
@@ -68,7 +68,7 @@ commits_told number = count_by (λ t. names number t.1)
 
 -- a job of this call aborted by the cause
 abbrev pub tells_abort : Call → Cause → Job × Option JobOutcome → Bool
-tells_abort call cause t = is_same_call call (call_of t.0) && told (is_aborted_by cause) t.1
+tells_abort call cause t = is_same_call call (call_of t.0) && outcome_passes (is_aborted_by cause) t.1
 
 abbrev pub aborts_told : Call → Cause → Tidings → ℕ
 aborts_told call cause = count_by (tells_abort call cause)

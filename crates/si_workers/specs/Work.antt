@@ -46,14 +46,14 @@ TellsTries job before after (Ok outcome) =
 TellsTries job before after (Err stop) = after ≤ before + job.retries
 
 -- the outcome is of a run of the job: of as many tries as it says, the last of which ended so
-abbrev pub IsRunOf : (before after : ℕ) → (last : Option Answer) → JobOutcome → Job → Type 0
-IsRunOf before after last outcome job =
+abbrev pub IsOutcomeOf : (before after : ℕ) → (last : Option Answer) → JobOutcome → Job → Type 0
+IsOutcomeOf before after last outcome job =
     TellsTries job before after (Ok outcome) × IsLastAnswer last outcome.job_end
 
 -- the outcome that is reported is of a run of the job of its number; where no job is drawn no instance ends
 abbrev pub IsReported : List Job → (before after : ℕ) → (last : Option Answer) → Result (Option Report) Stop → Type 0
 IsReported jobs before after last (Ok (Some report)) =
-    IsSomeAnd (slice_get jobs report.0) (IsRunOf before after last report.1)
+    IsSomeAnd (slice_get jobs report.0) (IsOutcomeOf before after last report.1)
 IsReported jobs before after last (Ok None) = after ≡ before
 IsReported jobs before after last (Err stop) = ⊤
 

@@ -109,14 +109,14 @@ pub part_at_once : (mode : Mode) (set : DraftTree) (part : List ℕ) (f : Comman
 part_at_once mode set part f h = ((λ no_memory. (h no_memory, refl)), (λ memory. inl refl))
 
 -- a fault of a line, where memory did not lack
-line_fails : {Y : Type 0} (read : Result Y LineFault) (f : LineFault) → Fails f read → is_memory (fault.Part (s.Line f)) ≡ false → read ≡ Err f
-line_fails read (l.BadLine n) wrong no_memory = wrong
-line_fails read (l.UnknownName n) wrong no_memory = wrong
-line_fails read (l.WrongKeys n) wrong no_memory = wrong
-line_fails read (l.LateRow n) wrong no_memory = wrong
-line_fails read (l.RepeatedRow n) wrong no_memory = wrong
-line_fails read (l.TooManyEvents n) wrong no_memory = wrong
-line_fails read l.Memory wrong no_memory = absurd (cc)
+fault_read : {Y : Type 0} (read : Result Y LineFault) (f : LineFault) → Fails f read → is_memory (fault.Part (s.Line f)) ≡ false → read ≡ Err f
+fault_read read (l.BadLine n) wrong no_memory = wrong
+fault_read read (l.UnknownName n) wrong no_memory = wrong
+fault_read read (l.WrongKeys n) wrong no_memory = wrong
+fault_read read (l.LateRow n) wrong no_memory = wrong
+fault_read read (l.RepeatedRow n) wrong no_memory = wrong
+fault_read read (l.TooManyEvents n) wrong no_memory = wrong
+fault_read read l.Memory wrong no_memory = absurd (cc)
 
 -- a fault of a part that is no longer than an input may be is one of its lines
 part_fails : {Y : Type 0} (read : Result Y LineFault) (part : List ℕ) (Q : PartFault → Type 0) → length part ≤ input_limit
@@ -124,7 +124,7 @@ part_fails : {Y : Type 0} (read : Result Y LineFault) (part : List ℕ) (Q : Par
 part_fails read part Q within told (s.Input i.TooLong) wrong no_memory = absurd (omega (arith, wrong, within))
 part_fails read part Q within told (s.Input i.ReadFault) wrong no_memory = absurd wrong
 part_fails read part Q within told (s.Input i.Memory) wrong no_memory = absurd (cc)
-part_fails read part Q within told (s.Line f) wrong no_memory = told f (line_fails read f wrong.1 no_memory)
+part_fails read part Q within told (s.Line f) wrong no_memory = told f (fault_read read f wrong.1 no_memory)
 part_fails read part Q within told s.WriteFault wrong no_memory = absurd wrong
 
 -- a run of the script that a part is

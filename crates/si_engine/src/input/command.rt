@@ -1,7 +1,7 @@
 //! Lines of a script as commands.
 ghost use Rattle.std.specs.Prelude.{◌≡◌, Ok};
 ghost use Rattle.prog_tree.specs.Tree.{draft_tree};
-ghost use Rattle.si_engine.specs.Commands.{row_command, instance_number, one_instance, steps_of, call_of, begin_command, begin_at_command, step_command, commit_command, abort_command, vacuum_command, command_of, line_command};
+ghost use Rattle.si_engine.specs.Commands.{row_command, instance_number, one_instance, steps_of, program_call, begin_command, begin_at_command, step_command, commit_command, abort_command, vacuum_command, command_of, line_command};
 ghost use Rattle.si_engine.specs.LineFaults.{Reads};
 
 use crate::event::Event;
@@ -44,14 +44,14 @@ fn row(set: &ProgramSet, line: usize, words: &[Word<'_>]) -> Result<Command, Lin
 }
 
 // A program by its name, and its arguments.
-#[tactic(auto, unfolding(crate::specs::Commands::call_of))]
+#[tactic(auto, unfolding(crate::specs::Commands::program_call))]
 fn read_call(
     alloc: Global,
     set: &ProgramSet,
     line: usize,
     words: &[Word<'_>],
 ) -> Result<ProgramCall, LineFault>
-    ensures { Reads (λ call. call) result (call_of (draft_tree set.now) line words.now) }
+    ensures { Reads (λ call. call) result (program_call (draft_tree set.now) line words.now) }
 {
     let [name, args @ ..] = words else {
         return Err(LineFault::BadLine { line });
