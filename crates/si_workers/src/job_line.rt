@@ -42,8 +42,8 @@ impl ListItem for Job {
 
     ghost item_of = { job_of };
 
-    fn is_keyword(word: &[u8]) -> bool {
-        word == b"job".as_slice()
+    fn first_word() -> &'static [u8] {
+        b"job".as_slice()
     }
 
     fn read(

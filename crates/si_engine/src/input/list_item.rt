@@ -1,5 +1,5 @@
 //! What lists have beside their rows.
-ghost use Rattle.std.specs.Prelude.{◌≡◌, ℕ, List, Result, bytes_eq};
+ghost use Rattle.std.specs.Prelude.{◌≡◌, ℕ, List, Result};
 ghost use Rattle.prog_tree.specs.Syntax.{DraftTree};
 ghost use Rattle.prog_tree.specs.Tree.{draft_tree};
 ghost use Rattle.si_engine.specs.LineFaults.{Reads};
@@ -19,8 +19,8 @@ pub trait ListItem: Drop {
     /// What the words behind it are, in a line of a number, or the line's fault.
     ghost item_of: { DraftTree → ℕ → List (List ℕ) → Result Self LineFault };
 
-    fn is_keyword(word: &[u8]) -> bool
-        ensures { result ≡ bytes_eq word.now keyword };
+    fn first_word() -> &'static [u8]
+        ensures { result.now ≡ keyword };
 
     fn read(
         alloc: Global,

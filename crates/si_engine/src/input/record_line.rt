@@ -126,8 +126,8 @@ impl ListItem for HistoryRow {
 
     ghost item_of = { record_row_of };
 
-    fn is_keyword(word: &[u8]) -> bool {
-        word == b"record".as_slice()
+    fn first_word() -> &'static [u8] {
+        b"record".as_slice()
     }
 
     fn read(
