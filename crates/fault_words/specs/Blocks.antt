@@ -49,5 +49,5 @@ open_head text place =
 -- the block of a head, with the line of the head
 abbrev pub open_text : (text : List ℕ) → (head : ℕ) → List ℕ
 open_text text head =
-    codes "the block of `" ++ (unwrap_or (head_of (short_word (drop head (without_comments text)))) [] ++ (codes "` in line "
-    ++ (decimal (line_number text head) ++ codes " is still open: a `}` is missing")))
+    codes "the block of `" ++ (unwrap_or (head_of (short_word (drop head (without_comments text)))) []
+    ++ (codes "` in line " ++ (decimal (line_number text head) ++ codes " is still open: a `}` is missing")))

@@ -32,7 +32,8 @@ program_params set program = params_of (slice_get set.programs program)
 abbrev pub cell_with : Name → Arity → (first second : ℤ) → List ℕ
 cell_with name One first second = codes "`" ++ (name ++ (codes "[" ++ (signed_decimal first ++ codes "]`")))
 cell_with name Two first second =
-    codes "`" ++ (name ++ (codes "[" ++ (signed_decimal first ++ (codes ", " ++ (signed_decimal second ++ codes "]`")))))
+    codes "`" ++ (name ++ (codes "[" ++ (signed_decimal first
+    ++ (codes ", " ++ (signed_decimal second ++ codes "]`")))))
 
 -- a cell of a table; a table that is not there has no name
 abbrev pub cell_of : Cell → Option TableDecl → List ℕ

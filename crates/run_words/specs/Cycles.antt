@@ -30,7 +30,8 @@ abbrev pub ahead_text : DraftTree → Option Reason → List ℕ
 ahead_text set (Some (Both cell)) = codes "changed " ++ (cell_text set cell ++ codes " before")
 ahead_text set (Some (Saw cell)) = codes "changed " ++ (cell_text set cell ++ codes ", and")
 ahead_text set (Some (Missed cell)) = codes "looked at " ++ (cell_text set cell ++ codes ", and missed what")
-ahead_text set (Some (MissedIn region cell)) = codes "looked at " ++ (region_text set region ++ codes ", and missed what")
+ahead_text set (Some (MissedIn region cell)) =
+    codes "looked at " ++ (region_text set region ++ codes ", and missed what")
 ahead_text set None = codes "stands before"
 
 -- what the second did, behind its number

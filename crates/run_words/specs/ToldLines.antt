@@ -108,8 +108,8 @@ CountsFollowing before after =
 -- as many lines are told as may be, and one more is counted
 abbrev pub CountsFurther : (before after : Refusals) → Type 0
 CountsFurther before after =
-    (most_told ≤ length before.told.items)
-    × (after.told.items ≡ before.told.items) × (after.following ≡ before.following) × (after.more ≡ one_more before.more)
+    (most_told ≤ length before.told.items) × (after.told.items ≡ before.told.items)
+    × (after.following ≡ before.following) × (after.more ≡ one_more before.more)
 
 -- a line is told, or counted in one of two ways
 abbrev pub IsCountedIn : (before after : Refusals) → Type 0

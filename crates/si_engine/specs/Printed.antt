@@ -105,7 +105,8 @@ reply_line tables event reply = subject event ++ (reply_text tables reply ++ cod
 -- `row t 1 = 5` or `row e 7 2 = 5`
 abbrev pub row_text_in : Name → Arity → Cell → ℤ → List ℕ
 row_text_in name One c v =
-    codes "row " ++ (name ++ (codes " " ++ (signed_decimal c.first ++ (codes " = " ++ (signed_decimal v ++ codes "\n")))))
+    codes "row " ++ (name ++ (codes " " ++ (signed_decimal c.first
+    ++ (codes " = " ++ (signed_decimal v ++ codes "\n")))))
 row_text_in name Two c v =
     codes "row " ++ (name ++ (codes " " ++ (signed_decimal c.first ++ (codes " " ++ (signed_decimal c.second
     ++ (codes " = " ++ (signed_decimal v ++ codes "\n")))))))

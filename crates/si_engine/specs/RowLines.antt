@@ -25,10 +25,13 @@ one_key key = option_map One (i64_of key)
 abbrev pub two_keys : List ℕ → List ℕ → Option Keys
 two_keys first second = option_and_then (λ a. option_map (Two a) (i64_of second)) (i64_of first)
 
+-- a row, where its keys and its value are numbers
+abbrev pub row_of : List ℕ → Option Keys → Option ℤ → Option RowWords
+row_of table keys value = option_and_then (λ k. option_map (λ v. record { table = table; keys = k; value = v }) value) keys
+
 -- a row's words: its table, its keys and its value, of which all but the table are numbers
 abbrev pub row_with : List ℕ → Option Keys → (sign value : List ℕ) → Option RowWords
-row_with table keys sign value =
-    if is_equals_sign sign then option_and_then (λ k. option_map (λ v. record { table = table; keys = k; value = v }) (i64_of value)) keys else None
+row_with table keys sign value = if is_equals_sign sign then row_of table keys (i64_of value) else None
 
 -- TABLE K = V, or TABLE K1 K2 = V
 abbrev pub row_words : List (List ℕ) → Option RowWords

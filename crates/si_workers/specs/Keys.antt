@@ -41,4 +41,5 @@ abbrev pub abort_cmp : AbortKey → AbortKey → Ordering
 abort_cmp a b = ordering_then (call_cmp a.call b.call) (cause_cmp a.cause b.cause)
 
 abbrev pub clash_cmp : ClashKey → ClashKey → Ordering
-clash_cmp a b = ordering_then (call_cmp a.call b.call) (ordering_then (cell_cmp a.cell b.cell) (nat_cmp a.number b.number))
+clash_cmp a b =
+    ordering_then (call_cmp a.call b.call) (ordering_then (cell_cmp a.cell b.cell) (nat_cmp a.number b.number))

@@ -210,8 +210,8 @@ pub record IsUndone (workers : ℕ) (set : DraftTree) (part : List ℕ) (told : 
   pub wrong : IsWorkFault (assigned workers set list.rows) list.items f
   pub named : told_of f ≡ told
 
--- the first fault of a set with a second part: of the analysis that comes before its lines; of its lines, of its records
--- as a history, of its certificate, or of the workers
+-- the first fault of a set with a second part: of the analysis that comes before its lines; of its lines, of its
+-- records as a history, of its certificate, or of the workers
 abbrev pub IsFaultOfPart : Mode → DraftTree → List ℕ → CommandFault → Type 0
 IsFaultOfPart mode set part (fault.Analysis f) = IsAnalysedFor mode × IsUnanalysed set f
 IsFaultOfPart mode set part (fault.Part (part_fault.Line f)) = IsFaultOfLine mode set part f

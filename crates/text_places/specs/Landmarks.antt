@@ -52,7 +52,8 @@ landmarks_before kind text (suc place) =
 -- where those of a kind begin that begin before a place, in order
 abbrev pub places_before : Landmark → (text : List ℕ) → (place : ℕ) → List ℕ
 places_before kind text zero = []
-places_before kind text (suc place) = places_before kind text place ++ (if is_landmark kind text place then place ∷ [] else [])
+places_before kind text (suc place) =
+    places_before kind text place ++ (if is_landmark kind text place then place ∷ [] else [])
 
 -- how many statements begin ahead of each program that begins before a place
 abbrev pub statements_ahead : (text : List ℕ) → (place : ℕ) → List ℕ
@@ -92,8 +93,8 @@ IsStatementPlace text program statement place =
 -- there is no such program, or too few statements begin behind its beginning
 pub data HasNoStatement (text : List ℕ) (program statement : ℕ) : Type 0 where
   NoProgram : HasNoProgram text program → HasNoStatement text program statement
-  FewBehind : (start : ℕ) → IsProgramPlace text program start → HasFewer Statement (without_comments text) start statement
-      → HasNoStatement text program statement
+  FewBehind : (start : ℕ) → IsProgramPlace text program start
+      → HasFewer Statement (without_comments text) start statement → HasNoStatement text program statement
 
 abbrev pub IsRecordPlace : (list : List ℕ) → (number : ℕ) → (place : ℕ) → Type 0
 IsRecordPlace list number place = IsNumbered Record list 0 number place

@@ -21,7 +21,8 @@ mark text place = replicate (inset text place - left_out text place) 32 ++ codes
 
 -- line and column
 abbrev pub position : (text : List ℕ) → (place : ℕ) → List ℕ
-position text place = codes "line " ++ (decimal (line_number text place) ++ (codes ", column " ++ decimal (column text place)))
+position text place =
+    codes "line " ++ (decimal (line_number text place) ++ (codes ", column " ++ decimal (column text place)))
 
 -- the line, and the mark below
 abbrev pub quote : (text : List ℕ) → (place : ℕ) → List ℕ
