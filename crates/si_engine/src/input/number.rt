@@ -72,7 +72,7 @@ pub fn numbers(alloc: Global, words: &[Word<'_>]) -> Result<Option<Sequence<i64>
         let Some(number) = number(word.as_bytes()) else {
             return Ok(None);
         };
-        numbers.push(number)?;
+        numbers.push_reserved(number);
     }
     Ok(Some(Sequence::from_vec(numbers)))
 }
