@@ -15,7 +15,7 @@ use crate::limits::MAX_READS;
 use crate::output::finding::{Serializability, push_findings_before};
 use crate::output::printed::push_reply_line;
 use crate::output::sink::{Sink, write_or};
-use crate::witness::{NoWitness, Witness};
+use crate::witness::{NoWitness, Witness, let_go};
 use prog_check::ProgramSet;
 use prog_tree::Draft;
 use std::alloc::{AllocError, Global};
@@ -65,7 +65,11 @@ fn push_lines<W: Witness>(
     let draft = set.draft();
     let mut engine = Engine::open(alloc, set, rows)?;
     run_events(&mut engine, draft, events.as_slice(), out, witness)?;
-    push_findings_before(engine.book(), out, witness)
+    let ended = push_findings_before(engine.book(), out, witness);
+    let last = witness.is_last();
+    let_go(engine, last);
+    let_go(events, last);
+    ended
 }
 
 // Reads all of a source as a script, runs it, and adds its lines.

@@ -41,6 +41,10 @@ impl Witness for Listener {
     fn cycle(&mut self, _book: &Book<'_>, cycle: &[usize]) {
         let _kept = self.cycle.extend_from_slice(cycle);
     }
+
+    fn is_last(&self) -> bool {
+        false
+    }
 }
 
 #[test]

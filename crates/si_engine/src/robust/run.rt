@@ -13,7 +13,7 @@ ghost use Rattle.si_engine.specs.View.{StaysOver};
 
 use crate::engine::Engine;
 use crate::event::{Event, Reply};
-use crate::witness::{NoWitness, Witness};
+use crate::witness::{NoWitness, Witness, let_go};
 use history_book::{Book, OrderFault};
 use prog_tree::{Cell, Rows, Sequence};
 use robust_cert::RobustSet;
@@ -108,6 +108,7 @@ pub fn run_robust_before<W: Witness>(
     let (replies, committed) = apply_events(alloc, &mut engine, events, witness)?;
     let order = order_of(engine.book())?;
     let table = engine.table()?;
+    let_go(engine, witness.is_last());
     Ok(Outcome {
         replies: Sequence::from_vec(replies),
         committed: Sequence::from_vec(committed),

@@ -15,7 +15,7 @@ use crate::output::finding::{Serializability, push_rows};
 use crate::output::printed::{push_last_line, push_reply_line};
 use crate::output::sink::{Sink, write_or};
 use crate::robust::run::{Outcome, run_robust_before};
-use crate::witness::Witness;
+use crate::witness::{Witness, let_go};
 use prog_tree::{Draft, TableDecl};
 use robust_cert::RobustSet;
 use std::alloc::{AllocError, Global};
@@ -74,7 +74,11 @@ fn push_lines<W: Witness>(
 {
     let Script { rows, events } = script;
     let outcome = run_robust_before(alloc, set, rows, events.as_slice(), witness)?;
-    list_outcome(set.set().draft(), events.as_slice(), &outcome, out)
+    let listed = list_outcome(set.set().draft(), events.as_slice(), &outcome, out);
+    let last = witness.is_last();
+    let_go(outcome, last);
+    let_go(events, last);
+    listed
 }
 
 // Reads all of a source as a script, runs it, and adds its lines.

@@ -1,6 +1,7 @@
 //! The command `audit`: from the bytes of records to the rows that they leave.
 ghost use Rattle.std.specs.Prelude.{◌≡◌, false, [], Ok, Err, string_bytes, IfOk, IfErr};
 ghost use Rattle.prog_tree.specs.Tree.{draft_tree};
+ghost use Rattle.history_book.specs.TrueBook.{IsTrueBook};
 ghost use Rattle.si_engine.specs.Records.{records_of};
 ghost use Rattle.si_engine.specs.Writing.{WritesOr};
 ghost use Rattle.sirob.specs.FaultLines.{is_memory};
@@ -17,6 +18,7 @@ use history_book::Book;
 use prog_check::ProgramSet;
 use si_engine::{ItemList, Records, Sink, push_findings_before, read_lines};
 use std::alloc::Global;
+use std::mem;
 
 // The records that the bytes of a part are.
 fn records_in(alloc: Global, set: &ProgramSet, part: &[u8]) -> Result<Records, CommandFault>
@@ -25,6 +27,13 @@ fn records_in(alloc: Global, set: &ProgramSet, part: &[u8]) -> Result<Records, C
         → IsFaultOfPart mode.Audit (draft_tree set.now) part.now fault) }
 {
     Ok(read_lines::<Records>(alloc, set, part)?)
+}
+
+// A book is true, as its type says.
+fn read_book(book: &Book<'_>)
+    ensures { IsTrueBook book.now }
+{
+    book.commits();
 }
 
 // Audits the records that the bytes of a part are, and adds the rows that are left and the last
@@ -44,8 +53,11 @@ fn push_audit(
         items: records,
     } = records_in(alloc, set, part)?;
     let book = Book::audit(alloc, set, rows, records.into_vec())?;
+    read_book(&book);
     let mut keeper = Keeper { alloc, part, kept };
     let finding = push_findings_before(&book, out, &mut keeper)?;
+    // The process ends behind the audit: the system takes the book's memory back as a whole.
+    mem::forget(book);
     Ok(Status::of(finding))
 }
 

@@ -40,6 +40,10 @@ impl Witness for Keeper<'_, '_> {
     fn cycle(&mut self, book: &Book<'_>, cycle: &[usize]) {
         self.kept.cycle = told_cycle(self.alloc, book, cycle);
     }
+
+    fn is_last(&self) -> bool {
+        true
+    }
 }
 
 /// Which lines of a script do nothing, as its run found them.

@@ -27,12 +27,12 @@ returns-clause-ok g c =
     let same = c.book.ensures.set ∙ (ran.over.0 ∙ (ap (λ e. e.set) c.in_ok-engine.ensures ∙ sym c.draft-draft.ensures.same)) in
     let history =
     c.book.ensures.history ∙ ap (λ m. m.history) (ran.after ∙ after_is set c.args.script engine.opening c.as_slice.result.now engine.machine opening c.as_slice.ensures machine) in
-    subst (λ d. IfOk c.push_findings_before.result (λ finding. AddsRun (draft_tree d) c.args.script finding (string_bytes c.args.out.now) (string_bytes c.push_findings_before.new.out))) c.draft-draft.ensures.same
-    (IfOk-weaker c.push_findings_before.result _ _
+    subst (λ d. IfOk c.push_findings_before-ended.result (λ finding. AddsRun (draft_tree d) c.args.script finding (string_bytes c.args.out.now) (string_bytes c.push_findings_before-ended.new.out))) c.draft-draft.ensures.same
+    (IfOk-weaker c.push_findings_before-ended.result _ _
     (all_lines set c.args.script engine.opening c.as_slice.result.now engine.machine opening c.as_slice.ensures machine
-    (string_bytes c.args.out.now) (string_bytes c.run_events.new.out) (string_bytes c.push_findings_before.new.out)
+    (string_bytes c.args.out.now) (string_bytes c.run_events.new.out) (string_bytes c.push_findings_before-ended.new.out)
     (draft_tree book.set) book.opening (history_of book.rows) (ap draft_tree same) (c.book.ensures.opening ∙ (ran.over.1 ∙ opening)) history ran.ok)
-    c.push_findings_before.ensures.ok)
+    c.push_findings_before-ended.ensures.ok)
 
 pub returns-clause-err : goal.returns-clause-err
 returns-clause-err g c =
@@ -45,9 +45,9 @@ returns-clause-err g c =
     let same = c.book.ensures.set ∙ (ran.over.0 ∙ (ap (λ e. e.set) c.in_ok-engine.ensures ∙ sym c.draft-draft.ensures.same)) in
     let history =
     c.book.ensures.history ∙ ap (λ m. m.history) (ran.after ∙ after_is set c.args.script engine.opening c.as_slice.result.now engine.machine opening c.as_slice.ensures machine) in
-    subst (λ d. OnErr c.push_findings_before.result (AddsFirst (run_lines (draft_tree d) c.args.script) (string_bytes c.args.out.now) (string_bytes c.push_findings_before.new.out))) c.draft-draft.ensures.same
-    (on_err_weaker c.push_findings_before.result
+    subst (λ d. OnErr c.push_findings_before-ended.result (AddsFirst (run_lines (draft_tree d) c.args.script) (string_bytes c.args.out.now) (string_bytes c.push_findings_before-ended.new.out))) c.draft-draft.ensures.same
+    (on_err_weaker c.push_findings_before-ended.result
     (first_rows set c.args.script engine.opening c.as_slice.result.now engine.machine opening c.as_slice.ensures machine
-    (string_bytes c.args.out.now) (string_bytes c.run_events.new.out) (string_bytes c.push_findings_before.new.out)
+    (string_bytes c.args.out.now) (string_bytes c.run_events.new.out) (string_bytes c.push_findings_before-ended.new.out)
     (draft_tree book.set) book.opening (history_of book.rows) (ap draft_tree same) (c.book.ensures.opening ∙ (ran.over.1 ∙ opening)) history ran.ok)
-    c.push_findings_before.ensures.err)
+    c.push_findings_before-ended.ensures.err)

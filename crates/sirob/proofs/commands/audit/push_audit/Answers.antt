@@ -1,8 +1,6 @@
-use Rattle.std.proofs.Common.{◌≡◌, rules, subst, string_bytes}
+use Rattle.std.proofs.Common.{◌≡◌, rules, string_bytes}
 use Rattle.std.proofs.lemmas.Result.{err_from_is_err_and}
 use Rattle.history_book.specs.Audit.{audited}
-use Rattle.history_book.specs.TrueBook.{IsTrueBook}
-use Rattle.history_book.specs.View.{BookView}
 use Rattle.sirob.proofs.StopLaws.{audit_given, audit_stopped}
 use Rattle.sirob.proofs.commands.audit.push_audit.Goals as goal
 
@@ -11,7 +9,7 @@ returns-in_err-finding c =
     let exit = err_from_is_err_and c.from_residual-in_err-finding.result c.from_residual-in_err-finding.ensures.1 in
     let records = c.in_ok-rows.field-0 in
     let is : c.in_ok-book.book ≡ audited c.args.set.now records.rows records.items = search rules in
-    let is_true = subst (λ (b : BookView). IsTrueBook b) c.book.view_is c.book.invariant.0 in
+    let is_true = c.read_book.ensures in
     rw (exit.1, exit.2) (
       tt,
       audit_stopped c.args.set.now c.args.part.now records c.in_ok-book.book (string_bytes c.args.out.now) (string_bytes c.push_findings_before.new.out)
@@ -22,7 +20,7 @@ pub returns : goal.returns
 returns c =
     let records = c.in_ok-rows.field-0 in
     let is : c.in_ok-book.book ≡ audited c.args.set.now records.rows records.items = search rules in
-    let is_true = subst (λ (b : BookView). IsTrueBook b) c.book.view_is c.book.invariant.0 in
+    let is_true = c.read_book.ensures in
     rw c.of.ensures (
       audit_given c.args.set.now c.args.part.now records c.in_ok-book.book c.in_ok-finding.finding (string_bytes c.args.out.now) (string_bytes c.push_findings_before.new.out)
           c.in_ok-rows.ensures.ok is is_true c.requires c.in_ok-finding.ensures.ok,
