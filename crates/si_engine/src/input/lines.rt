@@ -1,15 +1,26 @@
 //! Lines of a part.
-ghost use Rattle.std.specs.Prelude.{◌≡◌, ◌==◌, ◌+◌, ◌<◌, ◌≤◌, length, take, drop, not};
+ghost use Rattle.std.specs.Prelude.{◌≡◌, ◌≢◌, ◌==◌, ℕ, ◌+◌, ◌<◌, ◌≤◌, length, slice_index, take, drop, not};
 ghost use Rattle.std.specs.List.{prefix_len, before_first, after_first};
 ghost use Rattle.std.specs.Str.Lines.{strip_carriage_return};
 ghost use Rattle.si_engine.specs.Lines.{is_skipped};
+
+use memchr::memchr;
+
+// The first place of a separator, or how many bytes there are.
+fn first_place(bytes: &[u8], separator: u8) -> usize
+    ensures within { result ≤ length bytes.now }
+    ensures before { (k : ℕ) → k < result → slice_index bytes.now k ≢ separator }
+    ensures there { result < length bytes.now → slice_index bytes.now result ≡ separator }
+{
+    memchr(separator, bytes).unwrap_or(bytes.len())
+}
 
 // How many bytes stand before the first separator.
 fn first_len(bytes: &[u8], separator: u8) -> usize
     ensures value { result ≡ prefix_len (λ b. not (b == separator)) bytes.now }
     ensures within { result ≤ length bytes.now }
 {
-    bytes.iter().take_while(|byte| **byte != separator).count()
+    first_place(bytes, separator)
 }
 
 /// The items before a place, and those behind the one there: none if the place is the end.
