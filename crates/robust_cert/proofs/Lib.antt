@@ -1,6 +1,7 @@
 pub mod Shared
 pub mod Texts
 mod TailTexts
+mod Pieces
 pub mod Shapes
 pub mod EntryValues
 pub mod Members

@@ -1,7 +1,5 @@
 -- The text of a list's value, a part after another.
-use Rattle.std.proofs.Common.{◌≡◌, ◌<◌, ◌+◌, ◌∷◌, [], ◌++◌, ℕ, ℤ, pos, negsuc, List, length, get_or, take, map, true, codes, decimal, refl, sym, ap, ◌∙◌, append_assoc, Result, Ok, Err, is_ok, OnOk}
-use Rattle.std.proofs.lemmas.List.{take_more, flat_map_more}
-use Rattle.std.specs.Bool.{if◌then◌else◌}
+use Rattle.std.proofs.Common.{◌≡◌, ◌∷◌, [], ◌++◌, ℕ, ℤ, pos, negsuc, List, map, true, codes, decimal, refl, sym, ap, ◌∙◌, append_assoc}
 use Rattle.std.specs.Fmt.{digits, signed_decimal}
 use Rattle.std.specs.List.{flat_map}
 use Rattle.order_facts.specs.declared.steps.Node.{Node}
@@ -13,12 +11,10 @@ use Rattle.serde_json.proofs.OnLiterals.{serde_json_on_literals}
 use Rattle.robust_cert.specs.declared.certificate.Question.{Question}
 use Rattle.robust_cert.specs.declared.entries.Reason.{Reason}
 use Rattle.robust_cert.specs.declared.entries.Reason.TheVariants.{Apart, Cover}
-use Rattle.robust_cert.specs.declared.entries.Told.{Told}
 use Rattle.robust_cert.specs.declared.certificate.Certificate.{Certificate}
-use Rattle.robust_cert.specs.Json.{list_data, whole_data, node_data, chain_data, entry_data, first_data, second_data, shared_text}
+use Rattle.robust_cert.specs.Json.{list_data, whole_data, node_data, chain_data, entry_data, first_data, second_data}
 use Rattle.robust_cert.specs.Parts.{kind_text, first_text, head_text, second_text, tail_text, next_head_text, next_entry_text}
-use Rattle.robust_cert.specs.Sharing.{Entry, entry_with, reason_at, entry_told, entries_told}
-use Rattle.robust_cert.proofs.Shared.{told-push}
+use Rattle.robust_cert.specs.Sharing.{entry_with}
 
 -- each thing's text behind a comma
 abbrev pub behind_commas : {A : Type 0} → (A → Data) → List A → List ℕ
@@ -96,16 +92,6 @@ next_written p q r old head one two tail same a f g t =
     ∙ append_assoc old (44 ∷ head_text q r) (second_text q ++ tail_text r)
     ∙ ap (λ (s : List ℕ). old ++ (44 ∷ s)) (entry_text q r)
 
--- one more entry is written behind the others
-pub one_more_entry : (rs : List Reason) (ts : List Told) (i : ℕ) (t : Told) (initial before after : List ℕ) → i < length ts
-    → before ≡ initial ++ behind_commas entry_data (entries_told rs (take i ts)) → after ≡ before ++ next_entry_text (get_or ts i t).question (reason_at rs (get_or ts i t).reason)
-    → after ≡ initial ++ behind_commas entry_data (entries_told rs (take (i + 1) ts))
-one_more_entry rs ts i t initial before after within past now =
-    let more : entries_told rs (take (i + 1) ts) ≡ entries_told rs (take i ts) ++ entry_told rs (get_or ts i t) ∷ [] = ap (entries_told rs) (take_more ts i t within) ∙ told-push rs (take i ts) (get_or ts i t) in
-    now ∙ ap (λ s. s ++ next_entry_text (get_or ts i t).question (reason_at rs (get_or ts i t).reason)) past
-    ∙ flat_map_more (λ x. 44 ∷ compact_text (entry_data x)) initial (entries_told rs (take i ts)) (entry_told rs (get_or ts i t))
-    ∙ ap (λ xs. initial ++ behind_commas entry_data xs) (sym more)
-
 -- a certificate's text in the first version, and in the second
 pub first_whole : (c : Certificate)
     → codes "{\"entries\":" ++ (compact_text (list_data entry_data c.entries) ++ (codes ",\"levels\":" ++ (compact_text (list_data whole_data c.levels) ++ codes ",\"version\":1}"))) ≡ compact_text (first_data c)
@@ -116,21 +102,3 @@ pub second_whole : (c : Certificate)
     → codes "{\"bodies\":" ++ (compact_text (list_data whole_data c.bodies) ++ (codes ",\"entries\":" ++ (compact_text (list_data entry_data c.entries) ++ (codes ",\"levels\":" ++ (compact_text (list_data whole_data c.levels) ++ codes ",\"version\":2}"))))) ≡ compact_text (second_data c)
 unfolding serde_json_on_literals digits
 second_whole c = refl
-
--- the pieces of these texts, one pushed behind the other
-pub shared_written : (c : Certificate) (es : List Entry) (ls old one two three : List ℕ) → es ≡ c.entries → ls ≡ c.levels
-    → one ≡ old ++ codes "\"entries\":" → two ≡ one ++ compact_text (list_data entry_data es) → three ≡ two ++ codes ",\"levels\":"
-    → three ++ compact_text (list_data whole_data ls) ≡ old ++ shared_text c
-shared_written c es ls old one two three a b e f g = rw (g, f, e, a, b) (simp append_assoc)
-
-pub first_written : (c : Certificate) (old one two : List ℕ) → one ≡ old ++ codes "{" → two ≡ one ++ shared_text c → two ++ codes ",\"version\":1}" ≡ old ++ compact_text (first_data c)
-first_written c old one two e f = rw (f, e, ← first_whole c) (simp append_assoc)
-
-pub second_written : (c : Certificate) (bs old one two three four : List ℕ) → bs ≡ c.bodies
-    → one ≡ old ++ codes "{\"bodies\":" → two ≡ one ++ compact_text (list_data whole_data bs) → three ≡ two ++ codes "," → four ≡ three ++ shared_text c
-    → four ++ codes ",\"version\":2}" ≡ old ++ compact_text (second_data c)
-second_written c bs old one two three four a e f g h = rw (h, g, f, e, a, ← second_whole c) (simp append_assoc)
-
-pub last_piece : {T E : Type 0} (r : Result T E) (after before z whole : List ℕ) → after ≡ (if is_ok r then before ++ z else before) → before ++ z ≡ whole → OnOk r (after ≡ whole)
-last_piece (Ok _) after before z whole e f = e ∙ f
-last_piece (Err _) after before z whole e f = tt

@@ -105,12 +105,6 @@ certificate_data c = if has_no_bodies c then first_data c else second_data c
 abbrev pub certificate_text : Certificate → List ℕ
 certificate_text c = compact_text (certificate_data c)
 
--- the text of the members that both versions have, up to the version
-abbrev pub shared_text : Certificate → List ℕ
-shared_text c =
-    codes "\"entries\":" ++ (compact_text (list_data entry_data c.entries)
-    ++ (codes ",\"levels\":" ++ compact_text (list_data whole_data c.levels)))
-
 -- a text has grown by that of a value
 abbrev pub Appends : String Global → String Global → Data → Type 0
 Appends old new d = string_bytes new ≡ string_bytes old ++ compact_text d

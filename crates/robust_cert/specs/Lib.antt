@@ -3,6 +3,7 @@ pub mod Ranges
 pub mod Json
 pub mod Reading
 pub mod Parts
+pub mod Pieces
 pub mod Accepted
 pub mod Refused
 pub mod Law

@@ -1,6 +1,6 @@
 -- The text of an entry in three parts: the head and the tail are those of other entries as well, and between them
 -- stand two numbers.
-use Rattle.std.specs.Prelude.{◌≡◌, ◌++◌, ℕ, List, All, codes, decimal, map, String, string_bytes}
+use Rattle.std.specs.Prelude.{◌≡◌, ◌+◌, ◌≤◌, ◌++◌, ℕ, List, All, codes, decimal, length, map, String, string_bytes, string_capacity}
 use Rattle.std.specs.declared.alloc.Global.{Global}
 use Rattle.order_facts.specs.declared.steps.Node.{Node}
 use Rattle.serde_json.specs.Written.{compact_text}
@@ -26,11 +26,13 @@ head_text q reason = kind_text reason ++ first_text q
 abbrev pub next_head_text : Question → Reason → List ℕ
 next_head_text q reason = codes "," ++ head_text q reason
 
--- both heads that entries with this first access have, behind a comma
+-- both heads that entries with this first access have, behind a comma, where each other head has room
 abbrev pub AreHeadsOf : Question → String Global → String Global → Type 0
 AreHeadsOf q apart cover =
     (string_bytes apart ≡ codes ",[\"apart\"," ++ first_text q)
     × (string_bytes cover ≡ codes ",[\"cover\"," ++ first_text q)
+    × (32 ≤ string_capacity apart)
+    × (32 ≤ string_capacity cover)
 
 -- ---- the middle: the second access
 
@@ -55,6 +57,10 @@ tail_text (Cover mine theirs chains) = cover_tail_text mine theirs chains
 pub record AreTailsOf (reasons : List Reason) (tails : List (String Global)) : Type 0 where
   pub texts : map (λ t. string_bytes t) tails ≡ map tail_text reasons
   pub fit : All ReasonFits reasons
+
+-- the text of an entry with this reason takes no more bytes, with the comma behind the entry before
+abbrev pub HasRoomFor : ℕ → Reason → Type 0
+HasRoomFor room reason = length (tail_text reason) + 64 ≤ room
 
 -- ---- the text of an entry behind another one
 

@@ -24,5 +24,6 @@ pub use entries::{Entries, Reason, Told};
 pub use fault::{CertFault, JsonFault};
 pub use laws::law_of_acceptance;
 pub use robust::RobustSet;
+pub use text::pieces::CertificateText;
 pub use text::reading::from_json;
 pub use text::writing::to_json;

@@ -212,6 +212,28 @@ fn certificates_are_written_as_they_were_read(rt: HostRuntime) {
     }
 }
 
+fn push_others(text: &mut String, count: usize) -> Result<(), AllocError> {
+    for number in 1..count {
+        write!(text, ",[\"apart\",0,0,1,{number},[]]")?;
+    }
+    Ok(())
+}
+
+/// A text of so many entries, which have one reason.
+fn long_text(alloc: Global, count: usize) -> Result<String, AllocError> {
+    let mut text = String::from_str(alloc, "{\"entries\":[[\"apart\",0,0,1,0,[]]")?;
+    push_others(&mut text, count)?;
+    text.push_str("],\"levels\":[0,0],\"version\":1}")?;
+    Ok(text)
+}
+
+#[test]
+fn a_text_of_several_pieces_is_written_as_it_was_read(rt: HostRuntime) {
+    let text = long_text(rt.alloc(), 10_000).expect(&rt, "memory");
+    assert!(rt; text.len() > 3 * 65_536);
+    assert!(rt; is_written_as(rt.alloc(), text.as_str(), text.as_str()));
+}
+
 fn chain(rt: &impl Abort, alloc: Global, nodes: [Node; 2]) -> Chain {
     let nodes = Vec::from_array(alloc, nodes).expect(rt, "memory");
     Chain::from_vec(nodes).expect(rt, "numbers that a text can say")

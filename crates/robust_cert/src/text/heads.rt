@@ -1,22 +1,31 @@
 //! The heads of entries' texts. Entries with one first access follow each other, so their heads are
-//! written once and copied.
+//! written once and copied. The next heads are written where those before them stood.
 
-ghost use Rattle.std.specs.Prelude.{◌≡◌, ◌++◌, codes, string_bytes, IsTrue, IfOk, OnOk};
+ghost use Rattle.std.specs.Prelude.{◌≡◌, ◌≤◌, ◌++◌, codes, string_bytes, string_capacity, IsTrue, IfOk, length};
+ghost use Rattle.robust_cert.specs.Json.{QuestionFits};
 ghost use Rattle.robust_cert.specs.Parts.{first_text, next_head_text};
 
 use crate::certificate::Question;
 use crate::entries::Reason;
-use crate::text::writing::push_kind;
+use crate::text::room::{put_before_comma, put_str};
 use std::alloc::{AllocError, Global};
 use std::marker::Model;
 
-// A head, with the comma behind the entry before.
-fn head_of(alloc: Global, kind: &str, question: Question) -> Result<String, AllocError>
-    ensures { IfOk result (λ head. string_bytes head ≡ kind.now ++ first_text question) }
+// So many bytes a head has at most: its kind, with the comma behind the entry before, and two
+// numbers.
+const HEAD_BYTES: usize = 32;
+
+// Makes a text the head of a kind.
+fn write_head(head: &mut String, kind: &str, question: Question)
+    requires short { length kind.now ≤ 10 }
+    requires room { 32 ≤ string_capacity head.old }
+    ensures text { string_bytes head.new ≡ kind.now ++ first_text question }
+    ensures room { 32 ≤ string_capacity head.new }
 {
-    let mut head = String::new(alloc);
-    push_kind(&mut head, kind, question)?;
-    Ok(head)
+    head.clear();
+    put_str(head, kind);
+    put_before_comma(head, question.x);
+    put_before_comma(head, question.a);
 }
 
 fn ask_of_one_access(question: Question, other: Question) -> bool
@@ -48,8 +57,10 @@ impl Heads {
     pub(crate) fn of(alloc: Global, question: Question) -> Result<Self, AllocError>
         ensures { IfOk result (λ heads. heads ≡ question) }
     {
-        let apart = head_of(alloc, ",[\"apart\",", question)?;
-        let cover = head_of(alloc, ",[\"cover\",", question)?;
+        let mut apart = String::with_capacity(alloc, HEAD_BYTES)?;
+        let mut cover = String::with_capacity(alloc, HEAD_BYTES)?;
+        write_head(&mut apart, ",[\"apart\",", question);
+        write_head(&mut cover, ",[\"cover\",", question);
         Ok(Heads {
             question,
             apart,
@@ -58,13 +69,16 @@ impl Heads {
     }
 
     /// From these heads to those of another question.
-    pub(crate) fn renew(&mut self, alloc: Global, question: Question) -> Result<(), AllocError>
-        ensures { OnOk result (first_text self.new ≡ first_text question) }
+    pub(crate) fn renew(&mut self, question: Question)
+        ensures head { first_text self.new ≡ first_text question }
+        ensures fits { QuestionFits question }
     {
-        if !ask_of_one_access(self.question, question) {
-            *self = Heads::of(alloc, question)?;
+        if ask_of_one_access(self.question, question) {
+            return;
         }
-        Ok(())
+        self.question = question;
+        write_head(&mut self.apart, ",[\"apart\",", question);
+        write_head(&mut self.cover, ",[\"cover\",", question);
     }
 
     /// The head of an entry that has this first access, behind a comma.

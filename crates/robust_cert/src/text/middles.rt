@@ -1,12 +1,12 @@
 //! The middles of entries' texts. Each first access meets the same second ones, so the numbers of a
 //! second access are written once and copied.
 
-ghost use Rattle.std.specs.Prelude.{◌≡◌, ◌++◌, IsTrue, IfSome, IfOk, OnOk, string_bytes};
+ghost use Rattle.std.specs.Prelude.{◌≡◌, ◌+◌, ◌≤◌, ◌++◌, IsTrue, IfSome, IfOk, string_bytes, string_capacity, string_len};
 ghost use Rattle.robust_cert.specs.Parts.{second_text};
 ghost use Rattle.robust_cert.specs.Json.{QuestionFits};
 
 use crate::certificate::Question;
-use crate::text::writing::push_second_access;
+use crate::text::room::{put_before_comma, put_number, put_str};
 use std::alloc::{AllocError, Global};
 use std::marker::Model;
 
@@ -15,6 +15,20 @@ const MIDDLES_REMEMBERED: usize = 8_191;
 
 // For fewer entries no slots are made, since that would take longer than they save.
 const MIN_ENTRIES_WITH_SLOTS: usize = 1_024;
+
+// So many bytes a middle has at most: two numbers and the comma between them.
+const MIDDLE_BYTES: usize = 21;
+
+// Adds the numbers of the second access.
+fn put_second_access(text: &mut String, question: Question)
+    requires { string_len text.old + 21 ≤ string_capacity text.old }
+    ensures text { string_bytes text.new ≡ string_bytes text.old ++ second_text question }
+    ensures len { string_len text.new ≤ string_len text.old + 21 }
+    ensures capacity { string_capacity text.old ≤ string_capacity text.new }
+{
+    put_before_comma(text, question.y);
+    put_number(text, question.b);
+}
 
 // The text of the second access of a question.
 #[derive(Drop)]
@@ -39,8 +53,8 @@ impl Middle {
     fn of(alloc: Global, question: Question) -> Result<Self, AllocError>
         ensures { IfOk result (λ middle. middle ≡ question) }
     {
-        let mut text = String::new(alloc);
-        push_second_access(&mut text, question)?;
+        let mut text = String::with_capacity(alloc, MIDDLE_BYTES)?;
+        put_second_access(&mut text, question);
         Ok(Middle { question, text })
     }
 
@@ -80,7 +94,8 @@ impl Middles {
     }
 
     fn find(&self, question: Question) -> Option<&str>
-        ensures { IfSome result (λ text. text.now ≡ second_text question) }
+        ensures text { IfSome result (λ text. text.now ≡ second_text question) }
+        ensures fits { QuestionFits question }
     {
         let Some(Some(middle)) = self.slots.get(slot_of(question)) else {
             return None;
@@ -91,23 +106,25 @@ impl Middles {
         Some(middle.text())
     }
 
-    fn keep(&mut self, alloc: Global, question: Question) -> Result<(), AllocError> {
+    // Remembers the numbers of a second access, as far as there is memory.
+    fn keep(&mut self, alloc: Global, question: Question) {
         if let Some(slot) = self.slots.get_mut(slot_of(question)) {
-            *slot = Some(Middle::of(alloc, question)?);
+            *slot = Middle::of(alloc, question).ok();
         }
-        Ok(())
     }
 
     /// Adds the numbers of the second access, which are remembered from then on.
-    pub(crate) fn push(&mut self, text: &mut String, question: Question) -> Result<(), AllocError>
-        ensures text { OnOk result
-            (string_bytes text.new ≡ string_bytes text.old ++ second_text question) }
-        ensures fits { QuestionFits question }
+    pub(crate) fn put_access(&mut self, text: &mut String, question: Question)
+        requires { string_len text.old + 21 ≤ string_capacity text.old }
+        ensures text { string_bytes text.new ≡ string_bytes text.old ++ second_text question }
+        ensures len { string_len text.new ≤ string_len text.old + 21 }
+        ensures capacity { string_capacity text.old ≤ string_capacity text.new }
     {
         if let Some(known) = self.find(question) {
-            return text.push_str(known);
+            put_str(text, known);
+            return;
         }
-        self.keep(*text.allocator(), question)?;
-        push_second_access(text, question)
+        self.keep(*text.allocator(), question);
+        put_second_access(text, question);
     }
 }

@@ -3,17 +3,17 @@
 ghost use Rattle.std.specs.Prelude.{◌≡◌, ◌++◌, ◌==◌, All, IfOk, OnOk, codes, decimal, string_bytes};
 ghost use Rattle.std.specs.List.{list_all};
 ghost use Rattle.robust_cert.specs.Ranges.{IsSmall};
-ghost use Rattle.robust_cert.specs.Json.{node_data, entry_data, list_data, has_no_bodies, first_data, second_data, certificate_data, certificate_text, QuestionFits, EntryFits, CertificateFits, Appends, shared_text};
+ghost use Rattle.robust_cert.specs.Json.{node_data, entry_data, has_no_bodies, certificate_text, QuestionFits, EntryFits, Appends};
 ghost use Rattle.robust_cert.specs.Reading.{IsTextOf};
-ghost use Rattle.robust_cert.specs.Parts.{first_text, head_text, second_text, AreTailsOf, next_entry_text};
-ghost use Rattle.robust_cert.specs.Sharing.{entry_with, reason_at, entry_told, entries_told, HasReason};
+ghost use Rattle.robust_cert.specs.Parts.{first_text, head_text, second_text};
+ghost use Rattle.robust_cert.specs.Pieces.{first_entry_text, other_entries_text, next_entries_text, bodies_text, opening_text, version_text, levels_text, closing_text};
+ghost use Rattle.robust_cert.specs.Sharing.{entry_with, entries_told, HasReason};
 
 use crate::certificate::{Certificate, Question};
-use crate::entries::{Entries, Reason, Told};
-use crate::text::heads::Heads;
-use crate::text::middles::Middles;
+use crate::entries::{Reason, Told};
 use crate::text::part::push_list;
-use crate::text::tails::{push_tail, tail_at, tails_of};
+use crate::text::pieces::CertificateText;
+use crate::text::tails::push_tail;
 use itoa::{Buffer, Integer};
 use order_facts::Node;
 use std::alloc::{AllocError, Global};
@@ -61,8 +61,8 @@ pub(crate) fn push_node(text: &mut String, node: Node) -> Result<(), AllocError>
     }
 }
 
-/// Adds the kind of an entry, with what stands round it, and the numbers of the first access.
-pub(crate) fn push_kind(text: &mut String, kind: &str, question: Question) -> Result<(), AllocError>
+// Adds the kind of an entry, with what stands round it, and the numbers of the first access.
+fn push_kind(text: &mut String, kind: &str, question: Question) -> Result<(), AllocError>
     ensures { OnOk result
         (string_bytes text.new ≡ string_bytes text.old ++ (kind.now ++ first_text question)) }
 {
@@ -71,8 +71,8 @@ pub(crate) fn push_kind(text: &mut String, kind: &str, question: Question) -> Re
     push_before(text, question.a, ",")
 }
 
-/// Adds the numbers of the second access.
-pub(crate) fn push_second_access(text: &mut String, question: Question) -> Result<(), AllocError>
+// Adds the numbers of the second access.
+fn push_second_access(text: &mut String, question: Question) -> Result<(), AllocError>
     ensures text { OnOk result
         (string_bytes text.new ≡ string_bytes text.old ++ second_text question) }
     ensures fits { QuestionFits question }
@@ -103,92 +103,26 @@ fn push_entry(text: &mut String, question: Question, reason: &Reason) -> Result<
     push_tail(text, reason)
 }
 
-// Adds an entry behind another one. Its head and its tail are at hand, and mostly its middle.
-fn push_next(
+/// Adds the bracket before the entries, and the first of them, and gives the others.
+pub(crate) fn push_first_entry<'t>(
     text: &mut String,
-    heads: &Heads,
-    middles: &mut Middles,
-    told: Told,
+    told: &'t [Told],
     reasons: &[Reason],
-    tails: &[String],
-) -> Result<(), AllocError>
-    requires head { first_text heads.now ≡ first_text told.question }
-    requires tails { AreTailsOf reasons.now tails.now }
-    requires within { HasReason reasons.now told }
-    ensures text { OnOk result (string_bytes text.new ≡ string_bytes text.old
-        ++ next_entry_text told.question (reason_at reasons.now told.reason)) }
-    ensures fits { OnOk result (EntryFits (entry_told reasons.now told)) }
-{
-    let number = told.reason as usize;
-    text.push_str(heads.with_reason(&reasons[number]))?;
-    middles.push(text, told.question)?;
-    text.push_str(tail_at(reasons, tails, number))
-}
-
-// Adds the entries of questions that have the numbers of their reasons.
-fn push_told(text: &mut String, told: &[Told], reasons: &[Reason]) -> Result<(), AllocError>
+) -> Result<&'t [Told], AllocError>
     requires { All (HasReason reasons.now) told.now }
-    ensures text { OnOk result (Appends text.old text.new
-        (list_data entry_data (entries_told reasons.now told.now))) }
-    ensures fits { OnOk result (All EntryFits (entries_told reasons.now told.now)) }
+    ensures text { OnOk result (string_bytes text.new ≡ string_bytes text.old
+        ++ (codes "[" ++ first_entry_text (entries_told reasons.now told.now))) }
+    ensures others { IfOk result (λ others. next_entries_text (entries_told reasons.now others.now)
+        ≡ other_entries_text (entries_told reasons.now told.now)) }
+    ensures within { IfOk result (λ others. All (HasReason reasons.now) others.now) }
 {
-    let [first, others @ ..] = told else {
-        return text.push_str("[]");
-    };
-    let alloc = *text.allocator();
-    let mut heads = Heads::of(alloc, first.question)?;
-    let mut middles = Middles::for_entries(alloc, told.len())?;
-    let tails = tails_of(alloc, reasons)?;
     text.push_str("[")?;
+    let Some((first, others)) = told.split_first() else {
+        return Ok(told);
+    };
     let number = first.reason as usize;
     push_entry(text, first.question, &reasons[number])?;
-    for next in others {
-        heads.renew(alloc, next.question)?;
-        push_next(text, &heads, &mut middles, *next, reasons, &tails)?;
-    }
-    text.push_str("]")
-}
-
-fn push_entries(text: &mut String, entries: &Entries) -> Result<(), AllocError>
-    ensures text { OnOk result (Appends text.old text.new (list_data entry_data entries.now)) }
-    ensures fits { OnOk result (All EntryFits entries.now) }
-{
-    let (told, reasons) = entries.parts();
-    push_told(text, told, reasons)
-}
-
-// The members that both versions have, up to the version.
-fn push_shared(text: &mut String, certificate: &Certificate) -> Result<(), AllocError>
-    ensures text { OnOk result (string_bytes text.new
-        ≡ string_bytes text.old ++ shared_text certificate.now) }
-    ensures fits { OnOk result (All EntryFits certificate.now.entries
-        × All IsSmall certificate.now.levels) }
-{
-    text.push_str("\"entries\":")?;
-    push_entries(text, &certificate.entries)?;
-    text.push_str(",\"levels\":")?;
-    push_list(text, certificate.levels.as_slice())
-}
-
-fn push_first(text: &mut String, certificate: &Certificate) -> Result<(), AllocError>
-    ensures text { OnOk result (Appends text.old text.new (first_data certificate.now)) }
-    ensures fits { OnOk result (All EntryFits certificate.now.entries
-        × All IsSmall certificate.now.levels) }
-{
-    text.push_str("{")?;
-    push_shared(text, certificate)?;
-    text.push_str(",\"version\":1}")
-}
-
-fn push_second(text: &mut String, certificate: &Certificate) -> Result<(), AllocError>
-    ensures text { OnOk result (Appends text.old text.new (second_data certificate.now)) }
-    ensures fits { OnOk result (CertificateFits certificate.now) }
-{
-    text.push_str("{\"bodies\":")?;
-    push_list(text, certificate.bodies.as_slice())?;
-    text.push_str(",")?;
-    push_shared(text, certificate)?;
-    text.push_str(",\"version\":2}")
+    Ok(others)
 }
 
 fn are_zeros(numbers: &[u32]) -> bool
@@ -203,15 +137,61 @@ fn has_no_bodies(certificate: &Certificate) -> bool
     certificate.bodies.len() == certificate.levels.len() && are_zeros(certificate.bodies.as_slice())
 }
 
-fn push_certificate(text: &mut String, certificate: &Certificate) -> Result<(), AllocError>
-    ensures text { OnOk result (Appends text.old text.new (certificate_data certificate.now)) }
-    ensures fits { OnOk result (CertificateFits certificate.now) }
+// Adds the counts of accesses in bodies, and the name of the entries behind them.
+fn push_bodies(text: &mut String, bodies: &[u32]) -> Result<(), AllocError>
+    ensures text { OnOk result
+        (string_bytes text.new ≡ string_bytes text.old ++ bodies_text bodies.now) }
+    ensures fits { OnOk result (All IsSmall bodies.now) }
+{
+    text.push_str("{\"bodies\":")?;
+    push_list(text, bodies)?;
+    text.push_str(",\"entries\":")
+}
+
+/// Adds what stands before the list of entries.
+pub(crate) fn push_opening(text: &mut String, certificate: &Certificate) -> Result<(), AllocError>
+    ensures text { OnOk result
+        (string_bytes text.new ≡ string_bytes text.old ++ opening_text certificate.now) }
+    ensures fits { OnOk result (All IsSmall certificate.now.bodies) }
 {
     if has_no_bodies(certificate) {
-        push_first(text, certificate)
+        text.push_str("{\"entries\":")
     } else {
-        push_second(text, certificate)
+        push_bodies(text, certificate.bodies.as_slice())
     }
+}
+
+// Adds the end of the list of entries, and what stands behind it up to the version.
+fn push_levels(text: &mut String, levels: &[u32]) -> Result<(), AllocError>
+    ensures text { OnOk result
+        (string_bytes text.new ≡ string_bytes text.old ++ levels_text levels.now) }
+    ensures fits { OnOk result (All IsSmall levels.now) }
+{
+    text.push_str("]")?;
+    text.push_str(",\"levels\":")?;
+    push_list(text, levels)?;
+    Ok(())
+}
+
+fn version_text(certificate: &Certificate) -> &'static str
+    ensures { result.now ≡ version_text certificate.now }
+{
+    if has_no_bodies(certificate) {
+        ",\"version\":1}"
+    } else {
+        ",\"version\":2}"
+    }
+}
+
+/// What stands behind the last entry.
+pub(crate) fn closing_of(alloc: Global, certificate: &Certificate) -> Result<String, AllocError>
+    ensures text { IfOk result (λ text. string_bytes text ≡ closing_text certificate.now) }
+    ensures fits { IfOk result (λ _. All IsSmall certificate.now.levels) }
+{
+    let mut text = String::new(alloc);
+    push_levels(&mut text, certificate.levels.as_slice())?;
+    text.push_str(version_text(certificate))?;
+    Ok(text)
 }
 
 // So many bytes the text of an entry has about.
@@ -226,6 +206,11 @@ pub fn to_json(alloc: Global, certificate: &Certificate) -> Result<String, Alloc
 {
     let room = certificate.entries.len().saturating_mul(ENTRY_BYTES);
     let mut text = String::with_capacity(alloc, room)?;
-    push_certificate(&mut text, certificate)?;
+    let mut pieces = CertificateText::of(alloc, certificate)?;
+    text.push_str(pieces.piece())?;
+    while pieces.has_more() {
+        pieces.advance();
+        text.push_str(pieces.piece())?;
+    }
     Ok(text)
 }
