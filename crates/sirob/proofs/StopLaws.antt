@@ -266,7 +266,7 @@ take_past [] second n = ap (λ (k : ℕ). take k second) (zero-add n)
 take_past (x ∷ xs) second n = ap (λ (k : ℕ). take k (x ∷ (xs ++ second))) (suc-add (length xs) n) ∙ ap (λ (l : List ℕ). x ∷ l) (take_past xs second n)
 
 -- bytes, and then some first of others
-front_behind : (old mid new : Option (List ℕ)) (first second : List ℕ) → Appends old mid first → AppendsFront mid new second → AppendsFront old new (first ++ second)
+pub front_behind : (old mid new : Option (List ℕ)) (first second : List ℕ) → Appends old mid first → AppendsFront mid new second → AppendsFront old new (first ++ second)
 front_behind old mid new first second appends (n, more) =
     (length first + n, subst (Appends old new) (sym (take_past first second n)) (Appends-trans old mid new first (take n second) appends more))
 

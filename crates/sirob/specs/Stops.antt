@@ -44,6 +44,11 @@ abbrev pub IsVerified : Draft → Verified → Type 0
 IsVerified set (verified.Robust robust) = (robust ≡ set) × IsRobust (draft_tree set)
 IsVerified set (verified.Refused text) = GivesRefusal (draft_tree set) (string_bytes text) Unserializable
 
+-- these bytes and this status, or nothing for want of memory
+abbrev pub IsTextOrStop : List ℕ → Status → List ℕ → Result Status CommandFault → Type 0
+IsTextOrStop text status written ended =
+    IfOk ended (λ s. (written ≡ text) × (s ≡ status)) × IfErr ended (λ f. (written ≡ []) × (is_memory f ≡ true))
+
 -- ---- a second part
 
 -- the input is the text of a set without a fault and this part, which is no longer than an input may be

@@ -1,11 +1,14 @@
 //! Lines that a command writes to its sink.
-ghost use Rattle.std.specs.Prelude.{Err};
-ghost use Rattle.si_engine.specs.Writing.{IsJust, WritesOr};
+ghost use Rattle.std.specs.Io.KnownBytes.{Appends};
+ghost use Rattle.std.specs.Prelude.{◌≡◌, ◌↔◌, true, Err, IsErr, OnOk, OnErr};
+ghost use Rattle.robust_cert.specs.Pieces.{text_left};
+ghost use Rattle.si_engine.specs.Writing.{AppendsFront, IsJust, WritesOr};
 ghost use Rattle.sirob.specs.Stops.{write_lost};
 
 use crate::command_fault::CommandFault;
 use crate::status::Status;
-use si_engine::{PartFault, Sink, write_or};
+use robust_cert::CertificateText;
+use si_engine::{DeviceFault, PartFault, Sink, write_or, write_whole};
 
 /// Writes lines, and answers with the end that is given, or that the sink failed.
 pub fn write_lines<K: Sink>(
@@ -18,4 +21,24 @@ pub fn write_lines<K: Sink>(
 {
     let lost = CommandFault::Part(PartFault::WriteFault);
     write_or(sink, lines, ended, Err(lost))
+}
+
+/// Writes what is left of a certificate's text, piece by piece, or some first bytes of it where the
+/// sink fails.
+pub fn write_pieces<K: Sink>(
+    sink: &mut K,
+    text: &mut CertificateText<'_>,
+) -> Result<(), DeviceFault>
+    ensures fault { IsErr result ↔ (K.has_failed sink.new ≡ true) }
+    ensures whole { OnOk result
+        (Appends (K.taken sink.old) (K.taken sink.new) (text_left text.old)) }
+    ensures first { OnErr result
+        (AppendsFront (K.taken sink.old) (K.taken sink.new) (text_left text.old)) }
+{
+    write_whole(sink, text.piece().as_bytes())?;
+    while text.has_more() {
+        text.advance();
+        write_whole(sink, text.piece().as_bytes())?;
+    }
+    Ok(())
 }

@@ -1,75 +1,94 @@
 //! The command `certify`: from the bytes of its input to a certificate or the refusal of their set.
-ghost use Rattle.std.specs.Prelude.{◌≡◌, ◌≤◌, ◌++◌, false, [], ◌∷◌, Err, length, IfOk, IfErr, string_bytes};
+ghost use Rattle.std.specs.Prelude.{◌≡◌, ◌≤◌, ◌++◌, false, [], ◌∷◌, Err, length, IfOk, IfErr};
+ghost use Rattle.prog_check.specs.Paths.{paths_of};
 ghost use Rattle.prog_tree.specs.Tree.{draft_tree};
 ghost use Rattle.robust_cert.specs.Json.{certificate_text};
 ghost use Rattle.si_engine.specs.Limits.{input_limit};
 ghost use Rattle.si_engine.specs.Writing.{WritesOr};
+ghost use Rattle.si_repair.specs.Findings.{IsRightFinding};
 ghost use Rattle.sirob.specs.FaultLines.{is_memory};
-ghost use Rattle.sirob.specs.Output.{Gives, GivesFinding};
-ghost use Rattle.sirob.specs.Stops.{IsStop, IsInputDone, IsUnanalysedBy, write_lost};
+ghost use Rattle.sirob.specs.Output.{AsksFew, IsChecked};
+ghost use Rattle.sirob.specs.Refusal.{refusal_text};
+ghost use Rattle.sirob.specs.Stops.{IsStop, IsInputDone, IsTextOrStop, IsUnanalysedBy, write_lost};
 ghost use Rattle.sirob.specs.declared.command_line.Mode.TheVariants as mode;
+ghost use Rattle.sirob.specs.declared.status.Status.TheVariants as status;
 
 use crate::command_fault::CommandFault;
 use crate::commands::refusal::refusal_text;
 use crate::input::read_text;
-use crate::lines::write_lines;
+use crate::lines::{write_lines, write_pieces};
 use crate::status::Status;
+use dep_graph::Danger;
 use prog_check::ProgramSet;
-use robust_cert::{Certificate, to_json};
-use si_engine::Sink;
+use robust_cert::{Certificate, CertificateText};
+use si_engine::{PartFault, Sink};
 use si_repair::{Finding, certify_par};
-use std::alloc::{AllocError, Global};
+use std::alloc::Global;
 use std::thread::Threads;
 
-// The text of a certificate, and a line feed.
-fn certificate_line(alloc: Global, certificate: &Certificate) -> Result<String, AllocError>
-    ensures { IfOk result (λ line. string_bytes line
-        ≡ certificate_text certificate.now ++ 10 ∷ []) }
+// Writes the text of a certificate, piece by piece, and a line feed; or nothing where memory runs
+// out.
+fn write_certificate<K: Sink>(
+    alloc: Global,
+    certificate: &Certificate,
+    sink: &mut K,
+) -> Result<Status, CommandFault>
+    requires { K.has_failed sink.old ≡ false }
+    ensures { WritesOr (Err write_lost)
+        (IsTextOrStop (certificate_text certificate.now ++ 10 ∷ []) status.Done)
+        (K.has_failed sink.new) (K.taken sink.old) (K.taken sink.new) result }
 {
-    let mut line = to_json(alloc, certificate)?;
-    line.push_str("\n")?;
-    Ok(line)
-}
-
-// What an analysis finds of a set, as a text with the status behind it. It is kept.
-fn finding_text(
-    rt: &(impl AllocGlobal + Threads + Sync),
-    set: &ProgramSet,
-    found: &mut Option<Finding>,
-) -> Result<(String, Status), CommandFault>
-    ensures ok { IfOk result (λ told. GivesFinding (draft_tree set.now)
-        (string_bytes told.0) told.1) }
-    ensures err { IfErr result (λ fault. is_memory fault ≡ false
-        → IsUnanalysedBy (draft_tree set.now) fault) }
-{
-    let alloc = rt.alloc();
-    match certify_par(rt, alloc, set)? {
-        Finding::Robust(certificate) => {
-            let line = certificate_line(alloc, &certificate)?;
-            *found = Some(Finding::Robust(certificate));
-            Ok((line, Status::Done))
-        }
-        Finding::Refused(danger) => {
-            let text = refusal_text(alloc, set, &danger)?;
-            *found = Some(Finding::Refused(danger));
-            Ok((text, Status::Unserializable))
-        }
+    let mut text = CertificateText::of(alloc, certificate)?;
+    match write_pieces(sink, &mut text) {
+        Ok(()) => write_lines(sink, b"\n", Ok(Status::Done)),
+        Err(_) => Err(CommandFault::Part(PartFault::WriteFault)),
     }
 }
 
-// The same of the set that an input spells.
+// Writes the refusal of a set, or nothing where memory runs out.
+fn write_refusal<K: Sink>(
+    alloc: Global,
+    set: &ProgramSet,
+    danger: &Danger,
+    sink: &mut K,
+) -> Result<Status, CommandFault>
+    requires { K.has_failed sink.old ≡ false }
+    ensures { WritesOr (Err write_lost)
+        (IsTextOrStop (refusal_text (draft_tree set.now) danger.now) status.Unserializable)
+        (K.has_failed sink.new) (K.taken sink.old) (K.taken sink.new) result }
+{
+    let text = refusal_text(alloc, set, danger)?;
+    write_lines(sink, text.as_bytes(), Ok(Status::Unserializable))
+}
+
+// What an analysis finds of a set.
+fn analyse(
+    rt: &(impl AllocGlobal + Threads + Sync),
+    set: &ProgramSet,
+) -> Result<Finding, CommandFault>
+    ensures ok { IfOk result (λ finding. AsksFew (draft_tree set.now)
+        × IsRightFinding (paths_of (draft_tree set.now)) finding) }
+    ensures err { IfErr result (λ fault. is_memory fault ≡ false
+        → IsUnanalysedBy (draft_tree set.now) fault) }
+{
+    let finding = certify_par(rt, rt.alloc(), set)?;
+    Ok(finding)
+}
+
+// The set that an input spells, and what an analysis finds of it.
 fn input_finding(
     rt: &(impl AllocGlobal + Threads + Sync),
     input: &[u8],
-    found: &mut Option<Finding>,
-) -> Result<(String, Status), CommandFault>
+) -> Result<(ProgramSet, Finding), CommandFault>
     requires { length input.now ≤ input_limit }
-    ensures ok { IfOk result (λ told. Gives mode.Certify input.now (string_bytes told.0) told.1) }
+    ensures ok { IfOk result (λ told. IsChecked input.now (draft_tree told.0)
+        × AsksFew (draft_tree told.0)
+        × IsRightFinding (paths_of (draft_tree told.0)) told.1) }
     ensures err { IfErr result (λ fault. IsStop mode.Certify input.now fault []) }
 {
     let set = read_text(rt.alloc(), input)?;
-    let told = finding_text(rt, &set, found)?;
-    Ok(told)
+    let finding = analyse(rt, &set)?;
+    Ok((set, finding))
 }
 
 /// Writes the certificate or the refusal of the set that an input spells. What was found is kept.
@@ -84,6 +103,17 @@ pub fn certify_input<K: Sink>(
     ensures { WritesOr (Err write_lost) (IsInputDone mode.Certify input.now)
         (K.has_failed sink.new) (K.taken sink.old) (K.taken sink.new) result }
 {
-    let (text, status) = input_finding(rt, input, found)?;
-    write_lines(sink, text.as_bytes(), Ok(status))
+    let (set, finding) = input_finding(rt, input)?;
+    match finding {
+        Finding::Robust(certificate) => {
+            let ended = write_certificate(rt.alloc(), &certificate, sink);
+            *found = Some(Finding::Robust(certificate));
+            ended
+        }
+        Finding::Refused(danger) => {
+            let ended = write_refusal(rt.alloc(), &set, &danger, sink);
+            *found = Some(Finding::Refused(danger));
+            ended
+        }
+    }
 }
