@@ -201,6 +201,7 @@ is_line c fits bytes e =
     let utf8 = IsUtf8-append (certificate_text c) (10 ∷ []) h.0.utf8 (IsUtf8-are_ascii _ refl) in
     (certificate_data c, (subst IsUtf8 (sym e) utf8, ap read e ∙ read_line (certificate_data c) h.0), h.1)
 
-pub is_either : (c : Certificate) (bytes text : List ℕ) → text ≡ certificate_text c → IsTextOf c text → (bytes ≡ text) ⊎ (bytes ≡ text ++ codes "\n") → IsTextOf c bytes
-is_either c bytes text e h (inl is) = subst (IsTextOf c) (sym is) h
-is_either c bytes text e h (inr is) = is_line c h.2.0 bytes (is ∙ ap (λ s. s ++ 10 ∷ []) e)
+-- both are texts of it
+pub is_either : (c : Certificate) → CertificateFits c → (bytes text : List ℕ) → text ≡ certificate_text c → (bytes ≡ text) ⊎ (bytes ≡ text ++ codes "\n") → IsTextOf c bytes
+is_either c fits bytes text e (inl is) = is_text c fits bytes (is ∙ e)
+is_either c fits bytes text e (inr is) = is_line c fits bytes (is ∙ ap (λ s. s ++ 10 ∷ []) e)

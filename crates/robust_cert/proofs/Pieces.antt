@@ -1,5 +1,5 @@
 -- The text of a certificate in three parts, and the pieces that are given of it.
-use Rattle.std.proofs.Common.{◌≡◌, ◌<◌, ◌≤◌, ◌+◌, ◌∷◌, [], ◌++◌, ℕ, List, Bool, true, false, length, take, get_or, codes, decimal, String, string_bytes, refl, sym, ap, subst, ◌∙◌, append_assoc, append-nil, arith, if◌then◌else◌}
+use Rattle.std.proofs.Common.{◌≡◌, ◌⊎◌, inl, inr, ◌<◌, ◌≤◌, ◌+◌, ◌∷◌, [], ◌++◌, ℕ, List, Bool, true, false, length, take, get_or, codes, decimal, String, string_bytes, refl, sym, ap, subst, ◌∙◌, append_assoc, append-nil, arith, if◌then◌else◌}
 use Rattle.std.proofs.lemmas.List.{length-append, length-map, get_or-map}
 use Rattle.std.proofs.lemmas.List.Elements.{All-map, All-more, All-weaker}
 use Rattle.std.proofs.lemmas.Fmt.{length-decimal-le}
@@ -183,3 +183,19 @@ pieces_more old new before after piece whole all moves p e =
 -- all pieces
 pub pieces_end : (left : TextLeft) (text whole : List ℕ) → text ++ left.behind ≡ whole → left.behind ≡ [] → text ≡ whole
 pieces_end left text whole all none = sym (append-nil text) ∙ ap (λ (s : List ℕ). text ++ s) (sym none) ∙ all
+
+-- bytes that begin with a piece, and go on with all behind it
+pub read_first : (left : TextLeft) (bytes rest piece given more : List ℕ) → piece ≡ left.piece → given ≡ piece → bytes ≡ given ++ rest → rest ≡ left.behind ++ more → bytes ≡ text_left left ++ more
+read_first left bytes rest piece given more p g e is =
+    e ∙ ap (λ (s : List ℕ). s ++ rest) (g ∙ p) ∙ ap (λ (s : List ℕ). left.piece ++ s) is ∙ sym (append_assoc left.piece left.behind more)
+
+-- and so do those that are left
+pub read_next : (old new : TextLeft) (bytes rest piece given more : List ℕ) → text_left new ≡ old.behind → piece ≡ new.piece → given ≡ piece → bytes ≡ given ++ rest → rest ≡ new.behind ++ more → bytes ≡ old.behind ++ more
+read_next old new bytes rest piece given more moves p g e is =
+    read_first new bytes rest piece given more p g e is ∙ ap (λ (s : List ℕ). s ++ more) moves
+
+-- nothing is left of the text, and of the bytes no more than a line feed
+pub read_end : (left : TextLeft) (bytes rest whole : List ℕ) → ((more : List ℕ) → rest ≡ left.behind ++ more → bytes ≡ whole ++ more) → left.behind ≡ [] → (rest ≡ []) ⊎ (rest ≡ codes "\n")
+    → (bytes ≡ whole) ⊎ (bytes ≡ whole ++ codes "\n")
+read_end left bytes rest whole reads none (inl e) = inl (reads [] (e ∙ ap (λ (s : List ℕ). s ++ []) (sym none)) ∙ append-nil whole)
+read_end left bytes rest whole reads none (inr e) = inr (reads (codes "\n") (e ∙ ap (λ (s : List ℕ). s ++ codes "\n") (sym none)))

@@ -1,20 +1,23 @@
 //! From text to a certificate.
 
-ghost use Rattle.std.specs.Prelude.{◌≡◌, ◌≢◌, ◌⊎◌, ◌++◌, codes, Some, IfOk, IfErr, Ok, Err, IsTrue};
+ghost use Rattle.std.specs.Prelude.{◌≡◌, ◌≢◌, ◌⊎◌, ◌++◌, [], codes, Some, IfSome, IfOk, IfErr, Ok, Err, IsTrue};
 ghost use Rattle.serde_json.specs.View.{view};
 ghost use Rattle.robust_cert.specs.declared.certificate.Certificate.{Certificate};
 ghost use Rattle.robust_cert.specs.declared.fault.JsonFault.{JsonFault};
 ghost use Rattle.robust_cert.specs.Json.{IsValueOf};
+ghost use Rattle.robust_cert.specs.Pieces.{text_left};
 ghost use Rattle.robust_cert.specs.Reading.{ReadsAs, IsTextOf, IsFaultOf, HasFault, Answers, version_of, number_of};
 
 use crate::certificate::Certificate;
 use crate::fault::{JsonFault, Untaken};
 use crate::text::compact::compact_candidate;
+use crate::text::pieces::CertificateText;
 use crate::text::version::Version;
 use crate::text::whole::{certificate_of, object_of};
-use crate::text::writing::to_json;
 use serde_json::Value;
-use std::alloc::Global;
+use std::alloc::{AllocError, Global};
+
+const LINE_FEED: &[u8] = b"\n";
 
 fn value_of(alloc: Global, bytes: &[u8]) -> Result<Value, JsonFault>
     ensures ok { IfOk result (λ value. ReadsAs bytes.now (view value)) }
@@ -65,18 +68,52 @@ fn from_value(alloc: Global, bytes: &[u8]) -> Result<Certificate, JsonFault>
     certificate_in(alloc, value)
 }
 
-// Whether the bytes are a text, or a text and a line feed.
-fn is_line_of(text: &str, bytes: &[u8]) -> bool
-    ensures { IsTrue result → (bytes.now ≡ text.now) ⊎ (bytes.now ≡ text.now ++ codes "\n") }
+// What stands behind a piece, where the bytes begin with it.
+fn behind_piece<'b>(bytes: &'b [u8], piece: &[u8]) -> Option<&'b [u8]>
+    ensures { IfSome result (λ rest. bytes.now ≡ piece.now ++ rest.now) }
 {
-    let text = text.as_bytes();
-    if bytes == text {
+    if piece.len() > bytes.len() {
+        return None;
+    }
+    let (front, rest) = bytes.split_at(piece.len());
+    if front == piece { Some(rest) } else { None }
+}
+
+// Whether no more than a line feed is left.
+fn is_end(rest: &[u8]) -> bool
+    ensures { IsTrue result → (rest.now ≡ []) ⊎ (rest.now ≡ codes "\n") }
+{
+    if rest.is_empty() {
         return true;
     }
-    match bytes.split_last() {
-        Some((last, front)) => *last == b'\n' && front == text,
-        None => false,
+    rest == LINE_FEED
+}
+
+// Whether the bytes are a text that is given in pieces, or that and a line feed.
+fn is_line_of(text: &mut CertificateText<'_>, bytes: &[u8]) -> bool
+    ensures { IsTrue result → (bytes.now ≡ text_left text.old)
+        ⊎ (bytes.now ≡ text_left text.old ++ codes "\n") }
+{
+    let Some(first) = behind_piece(bytes, text.piece().as_bytes()) else {
+        return false;
+    };
+    let mut rest = first;
+    while text.has_more() {
+        text.advance();
+        let Some(behind) = behind_piece(rest, text.piece().as_bytes()) else {
+            return false;
+        };
+        rest = behind;
     }
+    is_end(rest)
+}
+
+// Whether the bytes are what `to_json` writes of a certificate.
+fn is_text_of(alloc: Global, certificate: &Certificate, bytes: &[u8]) -> Result<bool, AllocError>
+    ensures { IfOk result (λ is. IsTrue is → IsTextOf certificate.now bytes.now) }
+{
+    let mut text = CertificateText::of(alloc, certificate)?;
+    Ok(is_line_of(&mut text, bytes))
 }
 
 // The certificate of which the bytes are the text, as `to_json` writes it.
@@ -84,8 +121,8 @@ fn from_compact(alloc: Global, bytes: &[u8]) -> Result<Certificate, Untaken>
     ensures { IfOk result (λ certificate. IsTextOf certificate bytes.now) }
 {
     let candidate = compact_candidate(alloc, bytes)?;
-    let text = to_json(alloc, &candidate)?;
-    if is_line_of(&text, bytes) {
+    let is_text = is_text_of(alloc, &candidate, bytes)?;
+    if is_text {
         Ok(candidate)
     } else {
         Err(Untaken::Misshapen)
