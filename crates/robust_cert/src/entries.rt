@@ -5,6 +5,7 @@ ghost use Rattle.robust_cert.specs.Sharing.{Entry, entry_with, entries_told, Has
 
 use crate::certificate::Question;
 use crate::chain::Chain;
+use crate::limits::MAX_REASONS;
 use prog_tree::Sequence;
 use std::alloc::{AllocError, Global};
 use std::marker::Model;
@@ -29,9 +30,6 @@ pub struct Told {
     pub question: Question,
     pub reason: u32,
 }
-
-// The most reasons whose numbers have 32 bits.
-const MOST_REASONS: usize = 4_294_967_296;
 
 /// The entries of a certificate in order.
 #[derive(Debug, Drop)]
@@ -88,7 +86,7 @@ impl Entries {
         ensures err { OnErr result (self.new ≡ self.old) }
     {
         let number = self.reasons.len();
-        if number >= MOST_REASONS {
+        if number >= MAX_REASONS {
             return Err(AllocError);
         }
         self.reasons.push(reason)?;

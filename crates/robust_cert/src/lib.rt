@@ -13,6 +13,7 @@ mod checking;
 mod entries;
 mod fault;
 mod laws;
+mod limits;
 mod robust;
 mod text;
 
