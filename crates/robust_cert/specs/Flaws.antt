@@ -11,8 +11,8 @@ use Rattle.prog_paths.specs.Asked.{Asks}
 use Rattle.prog_paths.specs.Questions.{question_facts}
 use Rattle.prog_paths.specs.Shown.{key_pairs}
 use Rattle.robust_cert.specs.declared.checking.by_facts.AskedPair.{AskedPair}
-use Rattle.robust_cert.specs.declared.checking.flaw.Flaw.{Flaw}
-use Rattle.robust_cert.specs.declared.checking.flaw.Flaw as flaw
+use Rattle.robust_cert.specs.declared.checking.flaw.EntryFlaw.{EntryFlaw}
+use Rattle.robust_cert.specs.declared.checking.flaw.EntryFlaw as flaw
 use Rattle.robust_cert.specs.declared.fault.CertFault.{CertFault}
 use Rattle.robust_cert.specs.declared.fault.CertFault.TheVariants.{NoSuchEntry, EntryOrder, BadChain, BadCover}
 use Rattle.robust_cert.specs.Accepted.{IsCoverOf, IsFitting, ChainsHold, Holds}
@@ -42,7 +42,7 @@ pub record CoversWith (nodes : List Path) (q : Question) (m t count : ℕ)
   pub enough : count ≡ 2 * length (key_pairs of_mine of_theirs)
 
 -- which flaw an entry has
-abbrev pub IsFlawOf : List Path → Entry → Flaw → Type 0
+abbrev pub IsFlawOf : List Path → Entry → EntryFlaw → Type 0
 IsFlawOf nodes e flaw.TheVariants.Cover = ¬ IsFitting nodes e
 IsFlawOf nodes e flaw.TheVariants.Chain = IsFitting nodes e × ¬ ChainsHold nodes e
 

@@ -6,7 +6,7 @@ ghost use Rattle.robust_cert.specs.Flaws.{StandsAt, IsFaultAt};
 ghost use Rattle.robust_cert.specs.Sharing.{Entry};
 
 use crate::certificate::Certificate;
-use crate::checking::flaw::{Flaw, asked_pair, check_reason};
+use crate::checking::flaw::{EntryFlaw, asked_pair, check_reason};
 use crate::checking::numbers::Numbers;
 use crate::entries::Entries;
 use crate::fault::CertFault;
@@ -41,8 +41,8 @@ fn check_entry(paths: &[Path], entries: &Entries, k: usize) -> Result<(), CertFa
     }
     match check_reason(paths, question, asked, entries.reason(k)) {
         Ok(()) => Ok(()),
-        Err(Flaw::Cover) => Err(CertFault::BadCover(k)),
-        Err(Flaw::Chain) => Err(CertFault::BadChain(k)),
+        Err(EntryFlaw::Cover) => Err(CertFault::BadCover(k)),
+        Err(EntryFlaw::Chain) => Err(CertFault::BadChain(k)),
     }
 }
 

@@ -22,7 +22,7 @@ use prog_paths::{Placed, asks, asks_read_write, may_cover, mine_node, second_ter
 
 /// What an entry is wrong in.
 #[derive(Clone, Copy)]
-pub enum Flaw {
+pub enum EntryFlaw {
     Cover,
     Chain,
 }
@@ -143,7 +143,7 @@ pub fn check_reason(
     question: Question,
     asked: AskedPair<'_>,
     reason: &Reason,
-) -> Result<(), Flaw>
+) -> Result<(), EntryFlaw>
     requires { IsAskedPair paths.now (numbers_told question) asked.mine.now asked.theirs.now }
     ensures fitting { OnOk result (IsFitting paths.now (entry_with question reason.now)) }
     ensures chains { OnOk result (ChainsHold paths.now (entry_with question reason.now)) }
@@ -155,7 +155,7 @@ pub fn check_reason(
             if falls(asked, chain.as_slice()) {
                 Ok(())
             } else {
-                Err(Flaw::Chain)
+                Err(EntryFlaw::Chain)
             }
         }
         Reason::Cover {
@@ -167,12 +167,12 @@ pub fn check_reason(
             let cover = (*mine as usize, *theirs as usize);
             let Some((mine, theirs)) = covers_with(paths, question, asked, cover, chains.len())
             else {
-                return Err(Flaw::Cover);
+                return Err(EntryFlaw::Cover);
             };
             if show_equal(asked, mine, theirs, chains.as_slice()) {
                 Ok(())
             } else {
-                Err(Flaw::Chain)
+                Err(EntryFlaw::Chain)
             }
         }
     }

@@ -16,12 +16,12 @@ use std::alloc::Global;
 
 /// What is still to be read.
 #[derive(Drop)]
-pub(crate) struct Cursor<'a> {
+pub(crate) struct TextCursor<'a> {
     alloc: Global,
     rest: &'a [u8],
 }
 
-impl<'a> Cursor<'a> {
+impl<'a> TextCursor<'a> {
     // Reads a piece, where it comes next.
     fn eat(&mut self, piece: &[u8]) -> bool {
         match self.rest.strip_prefix(piece) {
@@ -293,12 +293,12 @@ fn chain_of(nodes: Nodes) -> Result<Chain, Untaken> {
 pub fn compact_candidate(alloc: Global, bytes: &[u8]) -> Result<Certificate, Untaken> {
     let line = bytes.strip_suffix(b"\n").unwrap_or(bytes);
     if let Some(rest) = line.strip_suffix(b",\"version\":1}") {
-        let mut cursor = Cursor { alloc, rest };
+        let mut cursor = TextCursor { alloc, rest };
         return cursor.first();
     }
     let Some(rest) = line.strip_suffix(b",\"version\":2}") else {
         return Err(Untaken::Misshapen);
     };
-    let mut cursor = Cursor { alloc, rest };
+    let mut cursor = TextCursor { alloc, rest };
     cursor.second()
 }

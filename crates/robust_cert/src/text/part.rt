@@ -8,7 +8,7 @@ ghost use Rattle.robust_cert.specs.Json.{whole_data, node_data, chain_data, list
 
 use crate::chain::Chain;
 use crate::fault::Untaken;
-use crate::text::compact::Cursor;
+use crate::text::compact::TextCursor;
 use crate::text::shape::{node_of, small_of};
 use crate::text::writing::{push_node, push_number};
 use order_facts::Node;
@@ -40,7 +40,7 @@ pub(crate) trait JsonPart: Drop {
             → (part : Self) → fits part → view value.now ≢ json part };
 
     /// The part that comes next in the very text that `push` adds. Nothing is promised of it.
-    fn read(cursor: &mut Cursor<'_>) -> Result<Self, Untaken>;
+    fn read(cursor: &mut TextCursor<'_>) -> Result<Self, Untaken>;
 }
 
 impl JsonPart for u32 {
@@ -56,7 +56,7 @@ impl JsonPart for u32 {
         small_of(value).ok_or(Untaken::Misshapen)
     }
 
-    fn read(cursor: &mut Cursor<'_>) -> Result<Self, Untaken> {
+    fn read(cursor: &mut TextCursor<'_>) -> Result<Self, Untaken> {
         cursor.small()
     }
 }
@@ -76,7 +76,7 @@ impl JsonPart for Node {
         node_of(value).ok_or(Untaken::Misshapen)
     }
 
-    fn read(cursor: &mut Cursor<'_>) -> Result<Self, Untaken> {
+    fn read(cursor: &mut TextCursor<'_>) -> Result<Self, Untaken> {
         cursor.node()
     }
 }
@@ -98,7 +98,7 @@ impl JsonPart for Chain {
         }
     }
 
-    fn read(cursor: &mut Cursor<'_>) -> Result<Self, Untaken> {
+    fn read(cursor: &mut TextCursor<'_>) -> Result<Self, Untaken> {
         cursor.chain()
     }
 }
