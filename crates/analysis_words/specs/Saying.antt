@@ -10,7 +10,7 @@ use Rattle.robust_cert.specs.Accepted.{body_size}
 use Rattle.robust_cert.specs.Reading.{IsTextOf}
 use Rattle.robust_cert.specs.Sharing.{Entry}
 use Rattle.robust_cert.specs.declared.certificate.Certificate.{Certificate}
-use Rattle.robust_cert.specs.declared.certificate.Question.{Question}
+use Rattle.robust_cert.specs.declared.certificate.EntryQuestion.{EntryQuestion}
 use Rattle.robust_cert.specs.declared.fault.CertFault.{CertFault}
 use Rattle.robust_cert.specs.declared.fault.CertFault.TheVariants as c
 use Rattle.robust_cert.specs.declared.fault.JsonFault.{JsonFault}
@@ -116,11 +116,11 @@ entry_of c.TooLarge = None
 entry_of c.Memory = None
 
 -- the question of an entry of a certificate
-abbrev pub asked_in : Certificate → (entry : ℕ) → Option Question
+abbrev pub asked_in : Certificate → (entry : ℕ) → Option EntryQuestion
 asked_in certificate entry = option_map (λ (e : Entry). e.question) (slice_get certificate.entries entry)
 
 -- the words name both accesses of a question, if there is one
-abbrev pub IsQuestionText : Sight → Option Question → (words : List ℕ) → Type 0
+abbrev pub IsQuestionText : Sight → Option EntryQuestion → (words : List ℕ) → Type 0
 IsQuestionText sight None words = words ≡ codes "its question"
 IsQuestionText sight (Some q) words =
     (mine theirs : List ℕ) × IsAccessText sight q.x q.a mine × IsAccessText sight q.y q.b theirs

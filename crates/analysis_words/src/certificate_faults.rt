@@ -9,11 +9,11 @@ use crate::shown::{Shown, access_text, node_name};
 use crate::shown_set::ShownSet;
 use prog_check::{Path, ProgramSet};
 use prog_paths::MAX_QUESTIONS;
-use robust_cert::{CertFault, Certificate, JsonFault, Question, body_size, from_json};
+use robust_cert::{CertFault, Certificate, EntryQuestion, JsonFault, body_size, from_json};
 use std::alloc::{AllocError, Global};
 
 // The question of an entry.
-fn asked_in(certificate: &Certificate, entry: usize) -> Option<Question>
+fn asked_in(certificate: &Certificate, entry: usize) -> Option<EntryQuestion>
     ensures { result ≡ asked_in certificate.now entry }
 {
     if entry < certificate.entries.len() {
@@ -27,7 +27,7 @@ fn asked_in(certificate: &Certificate, entry: usize) -> Option<Question>
 fn question_text(
     alloc: Global,
     shown: Shown<'_>,
-    question: Option<Question>,
+    question: Option<EntryQuestion>,
 ) -> Result<String, AllocError>
     ensures { IfOk result (λ words.
         IsQuestionText (seen shown.entry) question (string_bytes words)) }

@@ -24,7 +24,7 @@ use Rattle.serde_json.proofs.Numbers.{number_of-decimal, number_of-negative}
 use Rattle.serde_json.proofs.Texts.{print-outline}
 use Rattle.order_facts.specs.declared.steps.Node.{Node}
 use Rattle.order_facts.specs.declared.steps.Node.TheVariants.{Mine, MineUnknown, Theirs, TheirsUnknown, Number}
-use Rattle.robust_cert.specs.declared.certificate.Question.{Question}
+use Rattle.robust_cert.specs.declared.certificate.EntryQuestion.{EntryQuestion}
 use Rattle.robust_cert.specs.declared.certificate.Certificate.{Certificate}
 use Rattle.robust_cert.specs.declared.entries.Reason.{Reason}
 use Rattle.robust_cert.specs.declared.entries.Reason.TheVariants.{Apart, Cover}
@@ -114,12 +114,12 @@ node_again k (Number z) h = lettered_again k (codes "n") (of_integer z) (IsUtf8-
 chain_again : (k : ℕ) (chain : List Node) → ChainFits chain → ReadsBack (suc (suc k)) (chain_data chain)
 chain_again k = list_again node_data NodeFits (suc k) (node_again k)
 
-question_again : (k : ℕ) (kind : List ℕ) (q : Question) (reason : Items) → IsUtf8 kind → QuestionFits q → ItemsReadBack k reason → ReadsBack (suc k) (entry_items kind q reason)
+question_again : (k : ℕ) (kind : List ℕ) (q : EntryQuestion) (reason : Items) → IsUtf8 kind → QuestionFits q → ItemsReadBack k reason → ReadsBack (suc k) (entry_items kind q reason)
 question_again k kind q reason u h t =
     array_again k _ (item_again k _ _ (text_again k kind u) (item_again k _ _ (small_again k q.x h.0) (item_again k _ _ (small_again k q.a h.1)
     (item_again k _ _ (small_again k q.y h.2) (item_again k _ _ (small_again k q.b h.3) t)))))
 
-reason_again : (q : Question) (reason : Reason) → QuestionFits q → ReasonFits reason → ReadsBack 4 (entry_data (entry_with q reason))
+reason_again : (q : EntryQuestion) (reason : Reason) → QuestionFits q → ReasonFits reason → ReadsBack 4 (entry_data (entry_with q reason))
 reason_again q (Apart chain) f h = question_again 3 (codes "apart") q _ (IsUtf8-are_ascii _ refl) f (item_again 3 _ _ (chain_again 1 chain h) (no_items_again 3))
 reason_again q (Cover mine theirs chains) f h =
     question_again 3 (codes "cover") q _ (IsUtf8-are_ascii _ refl) f (item_again 3 _ _ (small_again 3 mine h.0) (item_again 3 _ _ (small_again 3 theirs h.1)

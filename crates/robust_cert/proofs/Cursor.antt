@@ -9,7 +9,7 @@ use Rattle.prog_paths.specs.Listing.{IsPlaceBefore, IsBefore, RiseBy}
 use Rattle.prog_paths.proofs.Order.{rise-between}
 use Rattle.robust_cert.specs.declared.checking.telling.Telling.{Telling}
 use Rattle.robust_cert.specs.declared.checking.telling.Telling as telling
-use Rattle.robust_cert.specs.declared.certificate.Question.{Question as Asked}
+use Rattle.robust_cert.specs.declared.certificate.EntryQuestion.{EntryQuestion}
 use Rattle.robust_cert.specs.declared.entries.Reason.{Reason}
 use Rattle.robust_cert.specs.Accepted.{numbers_told, question_of}
 use Rattle.robust_cert.specs.Telling.{is_same, telling_with, telling_of, IsBehind}
@@ -148,7 +148,7 @@ told_cases (d ∷ rest) q = go (cases_Bool (is_same (question_of d) q)) (told_ca
 
 -- ---- the question and the reason at the cursor
 
-module _ (entries : List Entry) (at : ℕ) (q : Question) (behind : IsBehind entries at q) (p : Asked) (about : (e : Entry) → slice_get entries at ≡ Some e → p ≡ e.question) where
+module _ (entries : List Entry) (at : ℕ) (q : Question) (behind : IsBehind entries at q) (p : EntryQuestion) (about : (e : Entry) → slice_get entries at ≡ Some e → p ≡ e.question) where
   asked-here : (e : Entry) → slice_get entries at ≡ Some e → numbers_told p ≡ question_of e
   asked-here e is = ap numbers_told (about e is)
 

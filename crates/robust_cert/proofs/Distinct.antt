@@ -6,7 +6,7 @@ use Rattle.serde_json.specs.Find.{of_integer}
 use Rattle.serde_json.specs.View.{items_of}
 use Rattle.order_facts.specs.declared.steps.Node.{Node}
 use Rattle.order_facts.specs.declared.steps.Node.TheVariants.{Mine, MineUnknown, Theirs, TheirsUnknown, Number}
-use Rattle.robust_cert.specs.declared.certificate.Question.{Question}
+use Rattle.robust_cert.specs.declared.certificate.EntryQuestion.{EntryQuestion}
 use Rattle.robust_cert.specs.declared.entries.Reason.{Reason}
 use Rattle.robust_cert.specs.declared.entries.Reason.TheVariants.{Apart, Cover}
 use Rattle.robust_cert.specs.Json.{node_data, chain_data, list_data, entry_data, whole_data}
@@ -70,13 +70,13 @@ same_chain = same_list node_data same_node
 same_number : (a b : ℕ) → whole_data a ≡ whole_data b → a ≡ b
 same_number a b e = cc
 
-abbrev question : ℕ → ℕ → ℕ → ℕ → Question
+abbrev question : ℕ → ℕ → ℕ → ℕ → EntryQuestion
 question x a y b = record { x = x; a = a; y = y; b = b }
 
-same_question : (p q : Question) → p.x ≡ q.x → p.a ≡ q.a → p.y ≡ q.y → p.b ≡ q.b → p ≡ q
+same_question : (p q : EntryQuestion) → p.x ≡ q.x → p.a ≡ q.a → p.y ≡ q.y → p.b ≡ q.b → p ≡ q
 same_question p q e f g h = let r : question p.x p.a p.y p.b ≡ question q.x q.a q.y q.b = rw (e, f, g, h) refl in r
 
-same_told : (p q : Question) (r s : Reason) → entry_data (entry_with p r) ≡ entry_data (entry_with q s) → entry_with p r ≡ entry_with q s
+same_told : (p q : EntryQuestion) (r s : Reason) → entry_data (entry_with p r) ≡ entry_data (entry_with q s) → entry_with p r ≡ entry_with q s
 same_told p q (Apart c) (Apart d) e =
     let f = same_question p q (cc) (cc) (cc) (cc) in
     ap₂ entry_with f (ap Apart (same_chain c d (cc)))

@@ -8,7 +8,7 @@ use Rattle.serde_json.specs.Events.{items_len}
 use Rattle.serde_json.specs.View.{view, items_view}
 use Rattle.serde_json.specs.declared.value.Value.{Value, Array}
 use Rattle.serde_json.proofs.Views.{view-Array, items_len-items_view}
-use Rattle.robust_cert.specs.declared.certificate.Question.{Question}
+use Rattle.robust_cert.specs.declared.certificate.EntryQuestion.{EntryQuestion}
 use Rattle.robust_cert.specs.declared.entries.Reason.{Reason}
 use Rattle.robust_cert.specs.declared.entries.Reason.TheVariants.{Apart, Cover}
 use Rattle.robust_cert.specs.Json.{QuestionFits, ReasonFits, EntryFits, entry_data, AreNumbersOf, IsWordedAs}
@@ -18,7 +18,7 @@ shown : (value : Value) (items : Vec Value Global) (seen : List Value) → value
 shown value items seen is here = ap view is ∙ view-Array items ∙ ap (λ vs. array (items_view vs)) (sym here)
 
 -- fewer than five items are no entry
-short_differs : (value : Value) (items : Vec Value Global) (seen : List Value) → value ≡ Array items → seen ≡ items.items → length seen < 5 → (q : Question) (reason : Reason) → view value ≢ entry_data (entry_with q reason)
+short_differs : (value : Value) (items : Vec Value Global) (seen : List Value) → value ≡ Array items → seen ≡ items.items → length seen < 5 → (q : EntryQuestion) (reason : Reason) → view value ≢ entry_data (entry_with q reason)
 short_differs value items seen is here short q (Apart chain) e =
     let n : items_len (items_view seen) ≡ 6 = cc (ap (λ d. option_map items_len (as_array d)) (sym (shown value items seen is here) ∙ e)) in
     omega (arith, items_len-items_view seen)
@@ -30,7 +30,7 @@ pub not_short : (value : Value) (items : Vec Value Global) (seen : List Value) �
 not_short value items seen is here short entry = short_differs value items seen is here short entry.question entry.reason
 
 -- a question in its range and a reason in its own make an entry in its own
-pub entry_fits : (q : Question) (reason : Reason) → QuestionFits q → ReasonFits reason → EntryFits (entry_with q reason)
+pub entry_fits : (q : EntryQuestion) (reason : Reason) → QuestionFits q → ReasonFits reason → EntryFits (entry_with q reason)
 entry_fits q reason f g = (f, g)
 
 pub kinds_differ : codes "apart" ≢ codes "cover"
@@ -67,7 +67,7 @@ module _ (value : Value) (items : Vec Value Global) (seen : List Value) (k x a y
   whole : view value ≡ array (item (view k) (item (view x) (item (view a) (item (view y) (item (view b) (items_view (behind seen)))))))
   whole = shown value items seen p.is p.here ∙ ap array (five seen k x a y b p.enough p.first p.second p.third p.fourth p.fifth)
 
-  pub entry_taken : (q : Question) (reason : Reason) → AreNumbersOf q (view x) (view a) (view y) (view b) → IsWordedAs reason (view k) (items_view (behind seen)) → view value ≡ entry_data (entry_with q reason)
+  pub entry_taken : (q : EntryQuestion) (reason : Reason) → AreNumbersOf q (view x) (view a) (view y) (view b) → IsWordedAs reason (view k) (items_view (behind seen)) → view value ≡ entry_data (entry_with q reason)
   entry_taken q reason e f = whole ∙ rw (e.0, e.1, e.2, e.3, f.0, f.1) refl
 
   pub not_entry : ((reason : Reason) → ReasonFits reason → ¬ IsWordedAs reason (view k) (items_view (behind seen))) → (entry : Entry) → EntryFits entry → view value ≢ entry_data entry

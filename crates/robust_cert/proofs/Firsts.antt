@@ -10,7 +10,7 @@ use Rattle.prog_check.specs.declared.path.Path.{Path}
 use Rattle.prog_paths.specs.StaticGraph.{Question}
 use Rattle.prog_paths.specs.Asked.{IsQuestion}
 use Rattle.prog_paths.specs.Listing.{IsBefore, RiseBy}
-use Rattle.robust_cert.specs.declared.certificate.Question.{Question as Asked}
+use Rattle.robust_cert.specs.declared.certificate.EntryQuestion.{EntryQuestion}
 use Rattle.robust_cert.specs.declared.certificate.Certificate.{Certificate}
 use Rattle.robust_cert.specs.declared.entries.Reason.{Reason}
 use Rattle.robust_cert.specs.declared.fault.CertFault.{CertFault}
@@ -87,11 +87,11 @@ module _ (nodes : List Path) (c : Certificate) (k : ℕ) (inside : k < length c.
 -- ---- one entry
 
 -- an entry is about no question
-pub no-question : (nodes : List Path) (entries : List Entry) (k : ℕ) (p : Asked) → ((e : Entry) → slice_get entries k ≡ Some e → p ≡ e.question) → (q : Question) → q ≡ numbers_told p → (IsQuestion nodes q → ⊥) → IsFaultAt nodes entries k (NoSuchEntry k)
+pub no-question : (nodes : List Path) (entries : List Entry) (k : ℕ) (p : EntryQuestion) → ((e : Entry) → slice_get entries k ≡ Some e → p ≡ e.question) → (q : Question) → q ≡ numbers_told p → (IsQuestion nodes q → ⊥) → IsFaultAt nodes entries k (NoSuchEntry k)
 no-question nodes entries k p about q named against e at = (refl, λ h. against (subst (IsQuestion nodes) (ap numbers_told (sym (about e at)) ∙ sym named) h))
 
 -- an entry that isn't the first stands behind the one before it, if their questions do
-module _ (entries : List Entry) (k : ℕ) (inside : k < length entries) (later : 0 < k) (o p : Asked) (before : (e : Entry) → slice_get entries (k - 1) ≡ Some e → o ≡ e.question) (about : (e : Entry) → slice_get entries k ≡ Some e → p ≡ e.question)
+module _ (entries : List Entry) (k : ℕ) (inside : k < length entries) (later : 0 < k) (o p : EntryQuestion) (before : (e : Entry) → slice_get entries (k - 1) ≡ Some e → o ≡ e.question) (about : (e : Entry) → slice_get entries k ≡ Some e → p ≡ e.question)
     (m n : Question) (first : m ≡ numbers_told o) (second : n ≡ numbers_told p) (b : Bool) (says : (b ≡ true) ↔ IsBefore m n) (e : Entry) (at : slice_get entries k ≡ Some e) where
   second_is : n ≡ question_of e
   second_is = second ∙ ap numbers_told (about e at)
@@ -107,7 +107,7 @@ module _ (entries : List Entry) (k : ℕ) (inside : k < length entries) (later :
         says.1 (subst (IsBefore m) (sym second_is) (subst (λ (r : Question). IsBefore r (question_of e)) (sym (first_is w.0 w.1)) (h (k - 1) w.0 (omega (arith, later)) w.1))),
   )
 
-module _ (nodes : List Path) (entries : List Entry) (k : ℕ) (p : Asked) (about : (e : Entry) → slice_get entries k ≡ Some e → p ≡ e.question)
+module _ (nodes : List Path) (entries : List Entry) (k : ℕ) (p : EntryQuestion) (about : (e : Entry) → slice_get entries k ≡ Some e → p ≡ e.question)
     (q : Question) (named : q ≡ numbers_told p) (mine theirs : Access) (pair : IsAskedPair nodes q mine theirs) (behind : Bool) (says : (e : Entry) → slice_get entries k ≡ Some e → (behind ≡ true) ↔ IsBehindLast entries k e) where
   asked : (e : Entry) → slice_get entries k ≡ Some e → IsQuestion nodes (question_of e)
   asked e at =

@@ -6,7 +6,7 @@ use Rattle.std.proofs.lemmas.Fmt.{length-decimal-le}
 use Rattle.std.specs.Prelude.{All}
 use Rattle.std.specs.declared.alloc.Global.{Global}
 use Rattle.serde_json.specs.Written.{compact_text}
-use Rattle.robust_cert.specs.declared.certificate.Question.{Question}
+use Rattle.robust_cert.specs.declared.certificate.EntryQuestion.{EntryQuestion}
 use Rattle.robust_cert.specs.declared.certificate.Certificate.{Certificate}
 use Rattle.robust_cert.specs.declared.entries.Reason.{Reason}
 use Rattle.robust_cert.specs.declared.entries.Reason.TheVariants.{Apart, Cover}
@@ -134,36 +134,26 @@ comma_length xs = let one : length (codes "," ++ xs) ≡ length (44 ∷ xs) = re
 small_length : (n : ℕ) → IsSmall n → length (decimal n) ≤ 10
 small_length n h = length-decimal-le 10 n (omega arith) (omega (arith, h)) (omega (arith, h))
 
-first_length : (q : Question) → QuestionFits q → length (first_text q) ≤ 22
+first_length : (q : EntryQuestion) → QuestionFits q → length (first_text q) ≤ 22
 first_length q fits =
     let comma : length (codes ",") ≡ 1 = refl in
     omega (arith, comma, length-append (decimal q.x) (codes "," ++ (decimal q.a ++ codes ",")), comma_length (decimal q.a ++ codes ","), length-append (decimal q.a) (codes ","), small_length q.x fits.0, small_length q.a fits.1)
 
-head_by : (p q : Question) (kind head : List ℕ) → length kind ≡ 9 → head ≡ codes "," ++ (kind ++ first_text p) → first_text p ≡ first_text q → QuestionFits q → length head ≤ 32
+head_by : (p q : EntryQuestion) (kind head : List ℕ) → length kind ≡ 9 → head ≡ codes "," ++ (kind ++ first_text p) → first_text p ≡ first_text q → QuestionFits q → length head ≤ 32
 head_by p q kind head nine is alike fits =
     omega (arith, nine, ap length is, comma_length (kind ++ first_text p), length-append kind (first_text p), ap length alike, first_length q fits)
 
 -- a head is short
-pub head_length : (p q : Question) (r : Reason) (head : List ℕ) → head ≡ next_head_text p r → first_text p ≡ first_text q → QuestionFits q → length head ≤ 32
+pub head_length : (p q : EntryQuestion) (r : Reason) (head : List ℕ) → head ≡ next_head_text p r → first_text p ≡ first_text q → QuestionFits q → length head ≤ 32
 head_length p q (Apart chain) head is alike fits = head_by p q (codes "[\"apart\",") head refl is alike fits
 head_length p q (Cover mine theirs chains) head is alike fits = head_by p q (codes "[\"cover\",") head refl is alike fits
 
 -- and so is a middle
-pub second_length : (q : Question) → QuestionFits q → length (second_text q) ≤ 21
+pub second_length : (q : EntryQuestion) → QuestionFits q → length (second_text q) ≤ 21
 second_length q fits =
     omega (arith, length-append (decimal q.y) (codes "," ++ decimal q.b), comma_length (decimal q.b), small_length q.y fits.2, small_length q.b fits.3)
 
 -- ---- pieces
-
--- the closing is given where no entry is left
-pub closing_given : (rs : List Reason) (ts : List Told) (closing piece behind : List ℕ) → length ts ≡ 0 → piece ≡ closing → behind ≡ [] → piece ++ (next_entries_text (entries_told rs ts) ++ behind) ≡ next_entries_text (entries_told rs ts) ++ closing
-closing_given rs [] closing piece behind none p b = ap (λ (s : List ℕ). piece ++ s) b ∙ append-nil piece ∙ p
-closing_given rs (t ∷ ts) closing piece behind none p b = absurd (omega (arith, none))
-
--- entries are given before the closing
-pub entries_given : (old new entries others closing : List ℕ) → old ≡ [] → new ++ others ≡ old ++ entries → new ++ (others ++ closing) ≡ entries ++ closing
-entries_given old new entries others closing none all =
-    sym (append_assoc new others closing) ∙ ap (λ (s : List ℕ). s ++ closing) (all ∙ ap (λ (s : List ℕ). s ++ entries) none)
 
 pub nothing_left : (rs : List Reason) (ts : List Told) (closing : List ℕ) → length ts ≡ 0 → length closing ≡ 0 → next_entries_text (entries_told rs ts) ++ closing ≡ []
 nothing_left rs [] [] none bare = refl

@@ -6,7 +6,7 @@ use Rattle.prog_check.specs.declared.path.Path.{Path}
 use Rattle.prog_paths.specs.StaticGraph.{Question}
 use Rattle.prog_paths.specs.Questions.{question_facts}
 use Rattle.prog_paths.specs.Shown.{key_pairs, ShowEqual}
-use Rattle.robust_cert.specs.declared.certificate.Question as cert
+use Rattle.robust_cert.specs.declared.certificate.EntryQuestion.{EntryQuestion}
 use Rattle.robust_cert.specs.declared.entries.Reason.{Reason}
 use Rattle.robust_cert.specs.declared.entries.Reason.TheVariants.{Cover}
 use Rattle.robust_cert.specs.Accepted.{numbers_told, IsCoverOf, ChainsHold}
@@ -14,7 +14,7 @@ use Rattle.robust_cert.specs.Flaws.{IsAskedPair, CoversWith}
 use Rattle.robust_cert.specs.Sharing.{entry_with}
 use Rattle.prog_paths.proofs.Marked.{same_access}
 
-pub cover-holds : (nodes : List Path) (p : cert.Question) (reason : Reason) (m t : ℕ) (chains : List (List Node)) → reason ≡ Cover m t chains → (mine theirs : Access) → IsAskedPair nodes (numbers_told p) mine theirs
+pub cover-holds : (nodes : List Path) (p : EntryQuestion) (reason : Reason) (m t : ℕ) (chains : List (List Node)) → reason ≡ Cover m t chains → (mine theirs : Access) → IsAskedPair nodes (numbers_told p) mine theirs
     → (q : Question) → q ≡ numbers_told p → (count : ℕ) (of_mine of_theirs : Access) → CoversWith nodes q m t count of_mine of_theirs
     → (list : List (List Node)) → list ≡ chains → ShowEqual (question_facts mine theirs) (key_pairs of_mine of_theirs) list → ChainsHold nodes (entry_with p reason)
 cover-holds nodes p reason m t chains is mine theirs pair q named count of_mine of_theirs w list of_list shown =

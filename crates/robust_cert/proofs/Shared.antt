@@ -4,7 +4,7 @@ use Rattle.std.specs.Prelude.{All, slice_get}
 use Rattle.std.proofs.lemmas.List.{length-map, length-append, map-append, get_or_append_left}
 use Rattle.std.proofs.lemmas.List.Elements.{All-head, All-tail, All-push}
 use Rattle.std.proofs.lemmas.Option.{same_Some, none-some, get_or_from_slice_get, slice_get-get_or}
-use Rattle.robust_cert.specs.declared.certificate.Question.{Question}
+use Rattle.robust_cert.specs.declared.certificate.EntryQuestion.{EntryQuestion}
 use Rattle.robust_cert.specs.declared.entries.Reason.{Reason}
 use Rattle.robust_cert.specs.declared.entries.Reason.TheVariants.{Apart}
 use Rattle.robust_cert.specs.declared.entries.Told.{Told}
@@ -43,7 +43,7 @@ module _ (rs : List Reason) where
   reason-at ts k t e at = ap (λ (x : Entry). x.reason) (told-at ts k t e at)
 
   -- an entry like another one
-  pub told-like : (ts : List Told) (k : ℕ) (t : Told) (q : Question) (e : Entry) → slice_get (entries_told rs ts) k ≡ Some e → entry_told rs record { question = q; reason = (get_or ts k t).reason } ≡ entry_with q e.reason
+  pub told-like : (ts : List Told) (k : ℕ) (t : Told) (q : EntryQuestion) (e : Entry) → slice_get (entries_told rs ts) k ≡ Some e → entry_told rs record { question = q; reason = (get_or ts k t).reason } ≡ entry_with q e.reason
   told-like ts k t q e at = ap (entry_with q) (sym (reason-at ts k t e at))
 
   -- one entry more
@@ -59,7 +59,7 @@ module _ (rs : List Reason) (r : Reason) where
   pub all-within-longer : (ts : List Told) → All (HasReason rs) ts → All (HasReason (rs ++ r ∷ [])) ts
   all-within-longer ts h k d lt = within-longer (get_or ts k d) (h k d lt)
 
-  pub last-within : (q : Question) → HasReason (rs ++ r ∷ []) record { question = q; reason = length rs }
+  pub last-within : (q : EntryQuestion) → HasReason (rs ++ r ∷ []) record { question = q; reason = length rs }
   last-within q = subst (λ (n : ℕ). length rs < n) (sym (length-append rs (r ∷ []))) (omega arith)
 
   entry-longer : (t : Told) → HasReason rs t → entry_told (rs ++ r ∷ []) t ≡ entry_told rs t
@@ -76,15 +76,15 @@ module _ (rs : List Reason) (r : Reason) where
   last-reason (x ∷ xs) = last-reason xs
 
   -- an entry with the last reason
-  pub entry-last : (q : Question) → entry_told (rs ++ r ∷ []) record { question = q; reason = length rs } ≡ entry_with q r
+  pub entry-last : (q : EntryQuestion) → entry_told (rs ++ r ∷ []) record { question = q; reason = length rs } ≡ entry_with q r
   entry-last q = ap (entry_with q) (last-reason rs)
 
-  pub told-own : (ts : List Told) (q : Question) → All (HasReason rs) ts
+  pub told-own : (ts : List Told) (q : EntryQuestion) → All (HasReason rs) ts
       → entries_told (rs ++ r ∷ []) (ts ++ record { question = q; reason = length rs } ∷ []) ≡ entries_told rs ts ++ entry_with q r ∷ []
   told-own ts q h =
       told-push (rs ++ r ∷ []) ts record { question = q; reason = length rs }
       ∙ ap (λ (l : List Entry). l ++ entry_told (rs ++ r ∷ []) record { question = q; reason = length rs } ∷ []) (told-longer ts h)
       ∙ ap (λ (e : Entry). entries_told rs ts ++ e ∷ []) (entry-last q)
 
-  pub all-within-own : (ts : List Told) (q : Question) → All (HasReason rs) ts → All (HasReason (rs ++ r ∷ [])) (ts ++ record { question = q; reason = length rs } ∷ [])
+  pub all-within-own : (ts : List Told) (q : EntryQuestion) → All (HasReason rs) ts → All (HasReason (rs ++ r ∷ [])) (ts ++ record { question = q; reason = length rs } ∷ [])
   all-within-own ts q h = All-push (HasReason (rs ++ r ∷ [])) ts record { question = q; reason = length rs } (all-within-longer ts h) (last-within q)

@@ -10,7 +10,7 @@ use Rattle.prog_paths.specs.Asked.{IsQuestion, questions_of}
 use Rattle.prog_paths.specs.Limits.{most_questions}
 use Rattle.prog_paths.specs.Listing.{RiseBy}
 use Rattle.prog_paths.specs.Shown.{Falls, key_pairs, ShowEqual}
-use Rattle.robust_cert.specs.declared.certificate.Question.{Question}
+use Rattle.robust_cert.specs.declared.certificate.EntryQuestion.{EntryQuestion}
 use Rattle.robust_cert.specs.declared.certificate.Certificate.{Certificate}
 use Rattle.robust_cert.specs.declared.entries.Reason.{Reason}
 use Rattle.robust_cert.specs.declared.entries.Reason.TheVariants.{Apart, Cover}
@@ -19,7 +19,7 @@ use Rattle.robust_cert.specs.Sharing.{Entry}
 -- ---- what an entry is about
 
 -- the four numbers that a certificate tells of a question
-abbrev pub numbers_told : Question → graph.Question
+abbrev pub numbers_told : EntryQuestion → graph.Question
 numbers_told q = record { x = q.x; a = q.a; y = q.y; b = q.b }
 
 -- the question that an entry is about

@@ -8,7 +8,7 @@ use Rattle.serde_json.specs.Data.{Num, unsigned, Data, number, string, array, ob
 use Rattle.serde_json.specs.Find.{of_integer}
 use Rattle.serde_json.specs.View.{items_of}
 use Rattle.serde_json.specs.Written.{compact_text}
-use Rattle.robust_cert.specs.declared.certificate.Question.{Question}
+use Rattle.robust_cert.specs.declared.certificate.EntryQuestion.{EntryQuestion}
 use Rattle.robust_cert.specs.declared.certificate.Certificate.{Certificate}
 use Rattle.robust_cert.specs.declared.entries.Reason.{Reason}
 use Rattle.robust_cert.specs.declared.entries.Reason.TheVariants.{Apart, Cover}
@@ -40,7 +40,7 @@ chain_data = list_data node_data
 
 -- ---- an entry is its kind, the four numbers of its question, and its reason
 
-abbrev pub entry_items : List ℕ → Question → Items → Data
+abbrev pub entry_items : List ℕ → EntryQuestion → Items → Data
 entry_items kind q reason =
     array (item (string kind) (item (whole_data q.x) (item (whole_data q.a)
     (item (whole_data q.y) (item (whole_data q.b) reason)))))
@@ -65,7 +65,7 @@ abbrev pub entry_data : Entry → Data
 entry_data e = entry_items (reason_kind e.reason) e.question (reason_items e.reason)
 
 -- four values are the numbers of a question
-abbrev pub AreNumbersOf : Question → Data → Data → Data → Data → Type 0
+abbrev pub AreNumbersOf : EntryQuestion → Data → Data → Data → Data → Type 0
 AreNumbersOf q x a y b =
     (x ≡ whole_data q.x) × (a ≡ whole_data q.a) × (y ≡ whole_data q.y) × (b ≡ whole_data q.b)
 
@@ -111,7 +111,7 @@ Appends old new d = string_bytes new ≡ string_bytes old ++ compact_text d
 
 -- ---- the numbers are in their ranges, as they are in every certificate that a program holds
 
-abbrev pub QuestionFits : Question → Type 0
+abbrev pub QuestionFits : EntryQuestion → Type 0
 QuestionFits q = IsSmall q.x × IsSmall q.a × IsSmall q.y × IsSmall q.b
 
 abbrev pub ReasonFits : Reason → Type 0

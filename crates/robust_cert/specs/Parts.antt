@@ -4,7 +4,7 @@ use Rattle.std.specs.Prelude.{◌≡◌, ◌+◌, ◌≤◌, ◌++◌, ℕ, List
 use Rattle.std.specs.declared.alloc.Global.{Global}
 use Rattle.order_facts.specs.declared.steps.Node.{Node}
 use Rattle.serde_json.specs.Written.{compact_text}
-use Rattle.robust_cert.specs.declared.certificate.Question.{Question}
+use Rattle.robust_cert.specs.declared.certificate.EntryQuestion.{EntryQuestion}
 use Rattle.robust_cert.specs.declared.entries.Reason.{Reason}
 use Rattle.robust_cert.specs.declared.entries.Reason.TheVariants.{Apart, Cover}
 use Rattle.robust_cert.specs.Json.{list_data, chain_data, entry_data, ReasonFits}
@@ -16,18 +16,18 @@ abbrev pub kind_text : Reason → List ℕ
 kind_text (Apart chain) = codes "[\"apart\","
 kind_text (Cover mine theirs chains) = codes "[\"cover\","
 
-abbrev pub first_text : Question → List ℕ
+abbrev pub first_text : EntryQuestion → List ℕ
 first_text q = decimal q.x ++ (codes "," ++ (decimal q.a ++ codes ","))
 
-abbrev pub head_text : Question → Reason → List ℕ
+abbrev pub head_text : EntryQuestion → Reason → List ℕ
 head_text q reason = kind_text reason ++ first_text q
 
 -- a head behind a comma
-abbrev pub next_head_text : Question → Reason → List ℕ
+abbrev pub next_head_text : EntryQuestion → Reason → List ℕ
 next_head_text q reason = codes "," ++ head_text q reason
 
 -- both heads that entries with this first access have, behind a comma, where each other head has room
-abbrev pub AreHeadsOf : Question → String Global → String Global → Type 0
+abbrev pub AreHeadsOf : EntryQuestion → String Global → String Global → Type 0
 AreHeadsOf q apart cover =
     (string_bytes apart ≡ codes ",[\"apart\"," ++ first_text q)
     × (string_bytes cover ≡ codes ",[\"cover\"," ++ first_text q)
@@ -36,7 +36,7 @@ AreHeadsOf q apart cover =
 
 -- ---- the middle: the second access
 
-abbrev pub second_text : Question → List ℕ
+abbrev pub second_text : EntryQuestion → List ℕ
 second_text q = decimal q.y ++ (codes "," ++ decimal q.b)
 
 -- ---- the tail: the reason
@@ -64,5 +64,5 @@ HasRoomFor room reason = length (tail_text reason) + 64 ≤ room
 
 -- ---- the text of an entry behind another one
 
-abbrev pub next_entry_text : Question → Reason → List ℕ
+abbrev pub next_entry_text : EntryQuestion → Reason → List ℕ
 next_entry_text q reason = codes "," ++ compact_text (entry_data (entry_with q reason))

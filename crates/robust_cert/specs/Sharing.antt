@@ -1,17 +1,17 @@
 -- Entries, and how certificates hold them: as questions that have the numbers of their reasons.
 use Rattle.std.specs.Prelude.{ℕ, ◌<◌, List, [], length, map, slice_index_or}
-use Rattle.robust_cert.specs.declared.certificate.Question.{Question}
+use Rattle.robust_cert.specs.declared.certificate.EntryQuestion.{EntryQuestion}
 use Rattle.robust_cert.specs.declared.entries.Reason.{Reason}
 use Rattle.robust_cert.specs.declared.entries.Reason.TheVariants.{Apart}
 use Rattle.robust_cert.specs.declared.entries.Told.{Told}
 
 -- a question, and why it leaves nothing to fear
 pub record Entry : Type 0 where
-  pub question : Question
+  pub question : EntryQuestion
   pub reason : Reason
 
 -- a question with this reason
-abbrev pub entry_with : Question → Reason → Entry
+abbrev pub entry_with : EntryQuestion → Reason → Entry
 entry_with q r = record { question = q; reason = r }
 
 -- ---- reasons have numbers

@@ -5,7 +5,7 @@ use prog_tree::Sequence;
 
 /// Access `a` of node `x` against access `b` of node `y`.
 #[derive(Clone, Copy, Debug, PartialEq, Eq)]
-pub struct Question {
+pub struct EntryQuestion {
     pub x: u32,
     pub a: u32,
     pub y: u32,

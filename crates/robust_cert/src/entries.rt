@@ -3,7 +3,7 @@
 ghost use Rattle.std.specs.Prelude.{◌≡◌, ◌<◌, ◌↔◌, [], ◌∷◌, ◌++◌, All, IsTrue, OnOk, OnErr, Some, length, slice_get};
 ghost use Rattle.robust_cert.specs.Sharing.{Entry, entry_with, entries_told, HasReason};
 
-use crate::certificate::Question;
+use crate::certificate::EntryQuestion;
 use crate::chain::Chain;
 use crate::limits::MAX_REASONS;
 use prog_tree::Sequence;
@@ -27,7 +27,7 @@ pub enum Reason {
 /// A question, and the number of its reason in a list of them.
 #[derive(Clone, Copy, Debug)]
 pub struct Told {
-    pub question: Question,
+    pub question: EntryQuestion,
     pub reason: u32,
 }
 
@@ -81,7 +81,7 @@ impl Entries {
 
     /// Adds an entry with a reason of its own. One more reason than 32 bits can number is answered
     /// as want of memory.
-    pub fn push(&mut self, question: Question, reason: Reason) -> Result<(), AllocError>
+    pub fn push(&mut self, question: EntryQuestion, reason: Reason) -> Result<(), AllocError>
         ensures ok { OnOk result (self.new ≡ self.old ++ entry_with question reason ∷ []) }
         ensures err { OnErr result (self.new ≡ self.old) }
     {
@@ -98,7 +98,7 @@ impl Entries {
     }
 
     /// Adds an entry that shares the reason of another one.
-    pub fn push_like(&mut self, question: Question, k: usize) -> Result<(), AllocError>
+    pub fn push_like(&mut self, question: EntryQuestion, k: usize) -> Result<(), AllocError>
         requires { k < length self.old }
         ensures ok { OnOk result ((e : Entry) → slice_get self.old k ≡ Some e
             → self.new ≡ self.old ++ entry_with question e.reason ∷ []) }
@@ -110,7 +110,7 @@ impl Entries {
     }
 
     /// The question of the entry of a number.
-    pub fn question(&self, k: usize) -> Question
+    pub fn question(&self, k: usize) -> EntryQuestion
         requires { k < length self.now }
         ensures { (e : Entry) → slice_get self.now k ≡ Some e → result ≡ e.question }
     {

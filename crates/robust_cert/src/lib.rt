@@ -17,7 +17,7 @@ mod limits;
 mod robust;
 mod text;
 
-pub use certificate::{Certificate, Question};
+pub use certificate::{Certificate, EntryQuestion};
 pub use chain::Chain;
 pub use checking::bodies::body_size;
 pub use checking::checker::verify;

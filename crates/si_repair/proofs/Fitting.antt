@@ -22,7 +22,7 @@ use Rattle.conflict_pairs.specs.Table.{Judged, Table, IsOnQuestion}
 use Rattle.conflict_pairs.specs.Verdicts.{IsRight, is_exposed}
 use Rattle.conflict_pairs.proofs.Serving.{served-within}
 use Rattle.dep_graph.specs.Counting.{IsCountOf, none, counted, passed}
-use Rattle.robust_cert.specs.declared.certificate.Question.{Question}
+use Rattle.robust_cert.specs.declared.certificate.EntryQuestion.{EntryQuestion}
 use Rattle.robust_cert.specs.declared.entries.Reason.{Reason}
 use Rattle.robust_cert.specs.declared.entries.Told.{Told}
 use Rattle.robust_cert.specs.Accepted.{body_size}
@@ -127,10 +127,10 @@ numbered-none q v n old exposed =
     sym (append-nil old) ∙ sym (ap (λ (b : Bool). old ++ (if b then [] else one)) exposed)
 
 -- any other one has the number of its reason
-pub numbered-one : (q : Asked) (v : Verdict) (n : ℕ) (old : List Told) (asked : Question) → asked ≡ told_question q → is_exposed v ≡ false → old ++ record { question = asked; reason = n } ∷ [] ≡ old ++ told_numbered q v n
+pub numbered-one : (q : Asked) (v : Verdict) (n : ℕ) (old : List Told) (asked : EntryQuestion) → asked ≡ told_question q → is_exposed v ≡ false → old ++ record { question = asked; reason = n } ∷ [] ≡ old ++ told_numbered q v n
 numbered-one q v n old asked is told =
     let one : List Told = record { question = told_question q; reason = n } ∷ [] in
-    ap (λ (p : Question). old ++ record { question = p; reason = n } ∷ []) is ∙ sym (ap (λ (b : Bool). old ++ (if b then [] else one)) told)
+    ap (λ (p : EntryQuestion). old ++ record { question = p; reason = n } ∷ []) is ∙ sym (ap (λ (b : Bool). old ++ (if b then [] else one)) told)
 
 pub numbered_more : (old new : List Told) (rs : List Reason) (q : Asked) (v : Verdict) (n : ℕ) → IsServed Gives rs v n → new ≡ old ++ told_numbered q v n → entries_told rs new ≡ entries_told rs old ++ told_by q v
 numbered_more old new rs q v n given added =

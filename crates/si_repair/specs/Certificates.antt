@@ -13,7 +13,7 @@ use Rattle.conflict_pairs.specs.declared.fault.PairFault as pairs
 use Rattle.conflict_pairs.specs.Interning.{AreInterned}
 use Rattle.conflict_pairs.specs.Table.{Judged, Table, StandsFor}
 use Rattle.conflict_pairs.specs.Verdicts.{is_exposed}
-use Rattle.robust_cert.specs.declared.certificate.Question.{Question}
+use Rattle.robust_cert.specs.declared.certificate.EntryQuestion.{EntryQuestion}
 use Rattle.robust_cert.specs.declared.entries.Reason.{Reason}
 use Rattle.robust_cert.specs.declared.entries.Reason as reason
 use Rattle.robust_cert.specs.declared.entries.Told.{Told}
@@ -32,7 +32,7 @@ fault_of pairs.TheVariants.Memory = faults.TheVariants.Memory
 -- ---- entries
 
 -- a question's four numbers
-abbrev pub told_question : Asked → Question
+abbrev pub told_question : Asked → EntryQuestion
 told_question q = record { x = q.x; a = q.a; y = q.y; b = q.b }
 
 -- the reason that a verdict gives; what stands for that of an exposed question is never told

@@ -9,11 +9,11 @@ ghost use Rattle.robust_cert.specs.Sharing.{entries_told, HasReason};
 ghost use Rattle.si_repair.specs.Certificates.{told_question, told_of, told_numbered, AreGiven, AreLevels, IsOfFew, AskedFits};
 
 use crate::reasons::reasons_of;
-use conflict_pairs::{Interned, PairTable, Verdict};
+use conflict_pairs::{Interned, PairTable, Question, Verdict};
 use dep_graph::Graph;
 use prog_check::Path;
 use prog_tree::Sequence;
-use robust_cert::{Certificate, Entries, Question, Reason, Told, body_size};
+use robust_cert::{Certificate, Entries, EntryQuestion, Reason, Told, body_size};
 use std::alloc::{AllocError, Global};
 
 /// A number as a certificate has it.
@@ -24,11 +24,11 @@ pub(crate) fn as_u32(number: usize) -> u32
     number as u32
 }
 
-fn told_question(asked: conflict_pairs::Question) -> Question
+fn told_question(asked: Question) -> EntryQuestion
     requires { AskedFits asked }
     ensures { result ≡ told_question asked }
 {
-    Question {
+    EntryQuestion {
         x: as_u32(asked.x),
         a: as_u32(asked.a),
         y: as_u32(asked.y),
@@ -37,7 +37,7 @@ fn told_question(asked: conflict_pairs::Question) -> Question
 }
 
 /// Adds a question with the number of its reason, unless it is exposed.
-fn push_told(asked: conflict_pairs::Question, verdict: &Verdict, number: u32, told: &mut Vec<Told>)
+fn push_told(asked: Question, verdict: &Verdict, number: u32, told: &mut Vec<Told>)
     requires fits { AskedFits asked }
     requires room { vec_len told.old < vec_capacity told.old }
     ensures added { told.new.items ≡ told.old.items ++ told_numbered asked verdict.now number }

@@ -4,7 +4,7 @@ use crate::examples::{KEPT_PAYS, KEPT_REPORTS, TRANSFERS};
 use order_facts::{Node, Nodes};
 use prog_tree::Sequence;
 use robust_cert::{
-    Certificate, Chain, Entries, JsonFault, Question, Reason, Told, from_json, to_json,
+    Certificate, Chain, Entries, EntryQuestion, JsonFault, Reason, Told, from_json, to_json,
 };
 use std::alloc::{AllocError, Global};
 use std::process::Abort;
@@ -248,7 +248,7 @@ fn chains(rt: &impl Abort, alloc: Global, mine: Node, theirs: Node) -> Sequence<
 
 /// The only entry of the certificate of the report set.
 fn report_entries(rt: &impl Abort, alloc: Global) -> Entries {
-    let question = Question {
+    let question = EntryQuestion {
         x: 2,
         a: 2,
         y: 0,
@@ -300,7 +300,7 @@ fn a_certificate_is_built_and_written(rt: HostRuntime) {
 const FALLING: [Node; 2] = [Node::Number(2), Node::Number(1)];
 
 /// A question that such numbers answer.
-const FIRST: Question = Question {
+const FIRST: EntryQuestion = EntryQuestion {
     x: 0,
     a: 0,
     y: 0,
@@ -308,7 +308,7 @@ const FIRST: Question = Question {
 };
 
 /// Another one that they answer.
-const SECOND: Question = Question {
+const SECOND: EntryQuestion = EntryQuestion {
     x: 0,
     a: 2,
     y: 3,
@@ -316,7 +316,7 @@ const SECOND: Question = Question {
 };
 
 /// One that has the second access of the first.
-const THIRD: Question = Question {
+const THIRD: EntryQuestion = EntryQuestion {
     x: 1,
     a: 0,
     y: 0,

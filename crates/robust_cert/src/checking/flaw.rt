@@ -11,7 +11,7 @@ ghost use Rattle.robust_cert.specs.Sharing.{entry_with};
 ghost use Rattle.robust_cert.specs.Telling.{question_with};
 ghost use Rattle.robust_cert.specs.Flaws.{facts_between, IsAskedPair, CoversWith, IsFlawOf};
 
-use crate::certificate::Question;
+use crate::certificate::EntryQuestion;
 use crate::chain::Chain;
 use crate::checking::by_facts::{AskedPair, falls, runs};
 use crate::checking::numbers::Numbers;
@@ -140,7 +140,7 @@ fn covers_with<'a>(
 /// Whether the reason of a question, which asks of two accesses, says what holds.
 pub fn check_reason(
     paths: &[Path],
-    question: Question,
+    question: EntryQuestion,
     asked: AskedPair<'_>,
     reason: &Reason,
 ) -> Result<(), EntryFlaw>

@@ -3,7 +3,7 @@ ghost use Rattle.std.specs.Prelude.{◌≡◌, ◌↔◌, IsTrue};
 ghost use Rattle.prog_paths.specs.Listing.{IsPlaceBefore, IsBefore};
 ghost use Rattle.robust_cert.specs.Telling.{question_with, is_same};
 
-use crate::certificate;
+use crate::certificate::EntryQuestion;
 use prog_paths::Question;
 
 /// Access `a` of node `x` against access `b` of node `y`.
@@ -22,14 +22,14 @@ fn is_place_before(x: usize, a: usize, y: usize, b: usize) -> bool
 }
 
 /// Those that a certificate tells of a question.
-impl From<certificate::Question> for Numbers {
+impl From<EntryQuestion> for Numbers {
     ghost use Rattle.std.specs.Prelude.{◌≡◌};
     ghost use Rattle.robust_cert.specs.Accepted.{numbers_told};
     ghost use Rattle.robust_cert.specs.Telling.{question_with};
 
     ghost from_gives = { λ question numbers. question_with numbers ≡ numbers_told question };
 
-    fn from(question: certificate::Question) -> Self {
+    fn from(question: EntryQuestion) -> Self {
         Numbers {
             x: question.x as usize,
             a: question.a as usize,

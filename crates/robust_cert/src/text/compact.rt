@@ -3,7 +3,7 @@
 //! This is for speed alone. What is read here is written again and compared with the bytes, so
 //! nothing is promised of it: a text of another form is misshapen here, and is read as JSON.
 
-use crate::certificate::{Certificate, Question};
+use crate::certificate::{Certificate, EntryQuestion};
 use crate::chain::Chain;
 use crate::entries::{Entries, Reason};
 use crate::fault::Untaken;
@@ -161,8 +161,8 @@ impl<'a> TextCursor<'a> {
         Ok(Sequence::from_vec(parts))
     }
 
-    fn question(&mut self) -> Result<Question, Untaken> {
-        Ok(Question {
+    fn question(&mut self) -> Result<EntryQuestion, Untaken> {
+        Ok(EntryQuestion {
             x: self.small_before_comma()?,
             a: self.small_before_comma()?,
             y: self.small_before_comma()?,

@@ -5,7 +5,7 @@ ghost use Rattle.std.specs.Prelude.{◌≡◌, ◌≤◌, ◌++◌, codes, strin
 ghost use Rattle.robust_cert.specs.Json.{QuestionFits};
 ghost use Rattle.robust_cert.specs.Parts.{first_text, next_head_text};
 
-use crate::certificate::Question;
+use crate::certificate::EntryQuestion;
 use crate::entries::Reason;
 use crate::text::room::{put_before_comma, put_str};
 use std::alloc::{AllocError, Global};
@@ -16,7 +16,7 @@ use std::marker::Model;
 const HEAD_BYTES: usize = 32;
 
 // Makes a text the head of a kind.
-fn write_head(head: &mut String, kind: &str, question: Question)
+fn write_head(head: &mut String, kind: &str, question: EntryQuestion)
     requires short { length kind.now ≤ 10 }
     requires room { 32 ≤ string_capacity head.old }
     ensures text { string_bytes head.new ≡ kind.now ++ first_text question }
@@ -28,7 +28,7 @@ fn write_head(head: &mut String, kind: &str, question: Question)
     put_before_comma(head, question.a);
 }
 
-fn ask_of_one_access(question: Question, other: Question) -> bool
+fn ask_of_one_access(question: EntryQuestion, other: EntryQuestion) -> bool
     ensures { IsTrue result → first_text question ≡ first_text other }
 {
     question.x == other.x && question.a == other.a
@@ -37,16 +37,16 @@ fn ask_of_one_access(question: Question, other: Question) -> bool
 /// The heads of the entries that have the first access of one question.
 #[derive(Drop)]
 pub(crate) struct Heads {
-    question: Question,
+    question: EntryQuestion,
     apart: String,
     cover: String,
 }
 
 impl Model for Heads {
-    ghost use Rattle.robust_cert.specs.declared.certificate.Question.{Question};
+    ghost use Rattle.robust_cert.specs.declared.certificate.EntryQuestion.{EntryQuestion};
     ghost use Rattle.robust_cert.specs.Parts.{AreHeadsOf};
 
-    ghost Value = { Question };
+    ghost Value = { EntryQuestion };
 
     ghost view = { λ h. h.question };
 
@@ -54,7 +54,7 @@ impl Model for Heads {
 }
 
 impl Heads {
-    pub(crate) fn of(alloc: Global, question: Question) -> Result<Self, AllocError>
+    pub(crate) fn of(alloc: Global, question: EntryQuestion) -> Result<Self, AllocError>
         ensures { IfOk result (λ heads. heads ≡ question) }
     {
         let mut apart = String::with_capacity(alloc, HEAD_BYTES)?;
@@ -69,7 +69,7 @@ impl Heads {
     }
 
     /// From these heads to those of another question.
-    pub(crate) fn renew(&mut self, question: Question)
+    pub(crate) fn renew(&mut self, question: EntryQuestion)
         ensures head { first_text self.new ≡ first_text question }
         ensures fits { QuestionFits question }
     {

@@ -5,7 +5,7 @@ ghost use Rattle.std.specs.Prelude.{◌≡◌, ◌+◌, ◌≤◌, ◌++◌, IsT
 ghost use Rattle.robust_cert.specs.Parts.{second_text};
 ghost use Rattle.robust_cert.specs.Json.{QuestionFits};
 
-use crate::certificate::Question;
+use crate::certificate::EntryQuestion;
 use crate::text::room::{put_before_comma, put_number, put_str};
 use std::alloc::{AllocError, Global};
 use std::marker::Model;
@@ -20,7 +20,7 @@ const MIN_ENTRIES_WITH_SLOTS: usize = 1_024;
 const MIDDLE_BYTES: usize = 21;
 
 // Adds the numbers of the second access.
-fn put_second_access(text: &mut String, question: Question)
+fn put_second_access(text: &mut String, question: EntryQuestion)
     requires { string_len text.old + 21 ≤ string_capacity text.old }
     ensures text { string_bytes text.new ≡ string_bytes text.old ++ second_text question }
     ensures len { string_len text.new ≤ string_len text.old + 21 }
@@ -33,16 +33,16 @@ fn put_second_access(text: &mut String, question: Question)
 // The text of the second access of a question.
 #[derive(Drop)]
 struct Middle {
-    question: Question,
+    question: EntryQuestion,
     text: String,
 }
 
 impl Model for Middle {
     ghost use Rattle.std.specs.Prelude.{◌≡◌, string_bytes};
-    ghost use Rattle.robust_cert.specs.declared.certificate.Question.{Question};
+    ghost use Rattle.robust_cert.specs.declared.certificate.EntryQuestion.{EntryQuestion};
     ghost use Rattle.robust_cert.specs.Parts.{second_text};
 
-    ghost Value = { Question };
+    ghost Value = { EntryQuestion };
 
     ghost view = { λ m. m.question };
 
@@ -50,7 +50,7 @@ impl Model for Middle {
 }
 
 impl Middle {
-    fn of(alloc: Global, question: Question) -> Result<Self, AllocError>
+    fn of(alloc: Global, question: EntryQuestion) -> Result<Self, AllocError>
         ensures { IfOk result (λ middle. middle ≡ question) }
     {
         let mut text = String::with_capacity(alloc, MIDDLE_BYTES)?;
@@ -58,7 +58,7 @@ impl Middle {
         Ok(Middle { question, text })
     }
 
-    fn is_that_of(&self, question: Question) -> bool
+    fn is_that_of(&self, question: EntryQuestion) -> bool
         ensures { IsTrue result → second_text self.now ≡ second_text question }
     {
         self.question.y == question.y && self.question.b == question.b
@@ -72,7 +72,7 @@ impl Middle {
 }
 
 // The slot for the second access of a question.
-fn slot_of(question: Question) -> usize {
+fn slot_of(question: EntryQuestion) -> usize {
     let mark = (question.y as usize).wrapping_mul(31);
     mark.wrapping_add(question.b as usize) % MIDDLES_REMEMBERED
 }
@@ -93,7 +93,7 @@ impl Middles {
         Ok(Middles { slots })
     }
 
-    fn find(&self, question: Question) -> Option<&str>
+    fn find(&self, question: EntryQuestion) -> Option<&str>
         ensures text { IfSome result (λ text. text.now ≡ second_text question) }
         ensures fits { QuestionFits question }
     {
@@ -107,14 +107,14 @@ impl Middles {
     }
 
     // Remembers the numbers of a second access, as far as there is memory.
-    fn keep(&mut self, alloc: Global, question: Question) {
+    fn keep(&mut self, alloc: Global, question: EntryQuestion) {
         if let Some(slot) = self.slots.get_mut(slot_of(question)) {
             *slot = Middle::of(alloc, question).ok();
         }
     }
 
     /// Adds the numbers of the second access, which are remembered from then on.
-    pub(crate) fn put_access(&mut self, text: &mut String, question: Question)
+    pub(crate) fn put_access(&mut self, text: &mut String, question: EntryQuestion)
         requires { string_len text.old + 21 ≤ string_capacity text.old }
         ensures text { string_bytes text.new ≡ string_bytes text.old ++ second_text question }
         ensures len { string_len text.new ≤ string_len text.old + 21 }

@@ -7,7 +7,7 @@ ghost use Rattle.robust_cert.specs.Parts.{tail_text, AreTailsOf, HasRoomFor, nex
 ghost use Rattle.robust_cert.specs.Pieces.{next_entries_text, text_left};
 ghost use Rattle.robust_cert.specs.Sharing.{reason_at, entries_told, HasReason};
 
-use crate::certificate::{Certificate, Question};
+use crate::certificate::{Certificate, EntryQuestion};
 use crate::entries::{Reason, Told};
 use crate::text::heads::Heads;
 use crate::text::middles::Middles;
@@ -18,14 +18,14 @@ use std::alloc::{AllocError, Global};
 use std::marker::Model;
 use std::mem::swap;
 
-// So many bytes a piece has at most, unless one entry has more.
+// The room of a piece, unless the opening or an entry needs more.
 const PIECE_BYTES: usize = 65_536;
 
 // So many bytes the text of an entry has at most before its tail.
 const FRONT_BYTES: usize = 64;
 
 // The heads with which a text begins, before an entry has asked for its own.
-const NO_QUESTION: Question = Question {
+const NO_QUESTION: EntryQuestion = EntryQuestion {
     x: 0,
     a: 0,
     y: 0,
@@ -33,7 +33,7 @@ const NO_QUESTION: Question = Question {
 };
 
 // Each number of a question has 32 bits.
-fn question_fits(question: Question)
+fn question_fits(question: EntryQuestion)
     ensures { QuestionFits question }
 {}
 

@@ -6,13 +6,13 @@ ghost use Rattle.serde_json.specs.Data.{Data, number, string, array, item, no_it
 ghost use Rattle.serde_json.specs.Find.{of_integer};
 ghost use Rattle.serde_json.specs.View.{view, items_view};
 ghost use Rattle.order_facts.specs.declared.steps.Node.{Node};
-ghost use Rattle.robust_cert.specs.declared.certificate.Question.{Question};
+ghost use Rattle.robust_cert.specs.declared.certificate.EntryQuestion.{EntryQuestion};
 ghost use Rattle.robust_cert.specs.declared.entries.Reason.{Reason};
 ghost use Rattle.robust_cert.specs.Ranges.{IsSmall, NodeFits, ChainFits};
 ghost use Rattle.robust_cert.specs.Json.{whole_data, node_data, QuestionFits, list_data, entry_data, ReasonFits, EntryFits, apart_items, cover_items, AreNumbersOf, IsWordedAs};
 ghost use Rattle.robust_cert.specs.Sharing.{Entry, entry_with};
 
-use crate::certificate::Question;
+use crate::certificate::EntryQuestion;
 use crate::chain::Chain;
 use crate::entries::{Entries, Reason};
 use crate::fault::Untaken;
@@ -63,13 +63,13 @@ pub fn node_of(value: &Value) -> Option<Node>
     }
 }
 
-fn question_of(x: &Value, a: &Value, y: &Value, b: &Value) -> Option<Question>
+fn question_of(x: &Value, a: &Value, y: &Value, b: &Value) -> Option<EntryQuestion>
     ensures some { IfSome result (λ q. QuestionFits q
         × AreNumbersOf q (view x.now) (view a.now) (view y.now) (view b.now)) }
-    ensures none { IfNone result ((q : Question) → QuestionFits q
+    ensures none { IfNone result ((q : EntryQuestion) → QuestionFits q
         → ¬ AreNumbersOf q (view x.now) (view a.now) (view y.now) (view b.now)) }
 {
-    Some(Question {
+    Some(EntryQuestion {
         x: small_of(x)?,
         a: small_of(a)?,
         y: small_of(y)?,
@@ -134,7 +134,7 @@ fn reason_of(alloc: Global, kind: &Value, items: &[Value]) -> Result<Reason, Unt
 }
 
 // The question of an entry, and its reason.
-fn entry_of(alloc: Global, value: &Value) -> Result<(Question, Reason), Untaken>
+fn entry_of(alloc: Global, value: &Value) -> Result<(EntryQuestion, Reason), Untaken>
     ensures ok { IfOk result (λ p. EntryFits (entry_with p.0 p.1)
         × (view value.now ≡ entry_data (entry_with p.0 p.1))) }
     ensures misshapen { result ≡ Err Untaken.Misshapen

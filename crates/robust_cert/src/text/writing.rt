@@ -9,7 +9,7 @@ ghost use Rattle.robust_cert.specs.Parts.{first_text, head_text, second_text};
 ghost use Rattle.robust_cert.specs.Pieces.{first_entry_text, other_entries_text, next_entries_text, bodies_text, opening_text, version_text, levels_text, closing_text};
 ghost use Rattle.robust_cert.specs.Sharing.{entry_with, entries_told, HasReason};
 
-use crate::certificate::{Certificate, Question};
+use crate::certificate::{Certificate, EntryQuestion};
 use crate::entries::{Reason, Told};
 use crate::text::part::push_list;
 use crate::text::pieces::CertificateText;
@@ -62,7 +62,7 @@ pub(crate) fn push_node(text: &mut String, node: Node) -> Result<(), AllocError>
 }
 
 // Adds the kind of an entry, with what stands round it, and the numbers of the first access.
-fn push_kind(text: &mut String, kind: &str, question: Question) -> Result<(), AllocError>
+fn push_kind(text: &mut String, kind: &str, question: EntryQuestion) -> Result<(), AllocError>
     ensures { OnOk result
         (string_bytes text.new ≡ string_bytes text.old ++ (kind.now ++ first_text question)) }
 {
@@ -72,7 +72,7 @@ fn push_kind(text: &mut String, kind: &str, question: Question) -> Result<(), Al
 }
 
 // Adds the numbers of the second access.
-fn push_second_access(text: &mut String, question: Question) -> Result<(), AllocError>
+fn push_second_access(text: &mut String, question: EntryQuestion) -> Result<(), AllocError>
     ensures text { OnOk result
         (string_bytes text.new ≡ string_bytes text.old ++ second_text question) }
     ensures fits { QuestionFits question }
@@ -82,7 +82,7 @@ fn push_second_access(text: &mut String, question: Question) -> Result<(), Alloc
 }
 
 // Adds the kind of an entry and the first access of its question.
-fn push_head(text: &mut String, question: Question, reason: &Reason) -> Result<(), AllocError>
+fn push_head(text: &mut String, question: EntryQuestion, reason: &Reason) -> Result<(), AllocError>
     ensures { OnOk result
         (string_bytes text.new ≡ string_bytes text.old ++ head_text question reason.now) }
 {
@@ -93,7 +93,7 @@ fn push_head(text: &mut String, question: Question, reason: &Reason) -> Result<(
 }
 
 // Adds an entry that stands behind none.
-fn push_entry(text: &mut String, question: Question, reason: &Reason) -> Result<(), AllocError>
+fn push_entry(text: &mut String, question: EntryQuestion, reason: &Reason) -> Result<(), AllocError>
     ensures text { OnOk result
         (Appends text.old text.new (entry_data (entry_with question reason.now))) }
     ensures fits { OnOk result (EntryFits (entry_with question reason.now)) }
@@ -169,8 +169,7 @@ fn push_levels(text: &mut String, levels: &[u32]) -> Result<(), AllocError>
 {
     text.push_str("]")?;
     text.push_str(",\"levels\":")?;
-    push_list(text, levels)?;
-    Ok(())
+    push_list(text, levels)
 }
 
 fn version_text(certificate: &Certificate) -> &'static str
