@@ -7,6 +7,9 @@ use Rattle.std.proofs.lemmas.List.{get_or_past, take_all, take-append-le, take_m
 use Rattle.std.proofs.lemmas.List.Recursion.{or_at, or_push}
 use Rattle.std.specs.BTreeSet.{insert_key}
 use Rattle.std.specs.BTreeMap.Range.{IsLtBy}
+use Rattle.std.specs.Cmp.{unsigned_tied}
+use Rattle.std.specs.List.{list_any}
+use Rattle.std.specs.Ordering.{eq_by_cmp}
 use Rattle.std.specs.Prelude.{slice_get}
 use Rattle.std.proofs.lemmas.Option.{slice_get_within, get_or_from_slice_get}
 use Rattle.history_book.specs.Orders.{is_one_of}
@@ -139,8 +142,8 @@ above-all keys k n h one =
 
 pub free-yes : (keys waits : List ℕ) (number : ℕ) → 0 < number → number < length waits → get_or waits number 0 ≡ 0
     → ((n : ℕ) → is_one_of keys n ≡ ((nat_lt 0 n && nat_lt n (length waits) && get_or waits n 0 == 0) && nat_lt n number))
-    → (n : ℕ) → is_one_of (insert_key nat_cmp keys number) n ≡ ((nat_lt 0 n && nat_lt n (length waits) && get_or waits n 0 == 0) && nat_lt n (number + 1))
-free-yes keys waits number first inside none is n = one-insert keys number n ∙ rw (is n) (go (eqb_tells number n))
+    → (n : ℕ) → is_one_of (keys ++ number ∷ []) n ≡ ((nat_lt 0 n && nat_lt n (length waits) && get_or waits n 0 == 0) && nat_lt n (number + 1))
+free-yes keys waits number first inside none is n = one-push keys number n ∙ rw (is n) (go (eqb_tells number n))
   where
     go : Same number n
         → (((nat_lt 0 n && nat_lt n (length waits) && get_or waits n 0 == 0) && nat_lt n number) || number == n) ≡ ((nat_lt 0 n && nat_lt n (length waits) && get_or waits n 0 == 0) && nat_lt n (number + 1))
@@ -156,6 +159,25 @@ free-no keys waits number some is n = is n ∙ go (eqb_tells number n)
         → ((nat_lt 0 n && nat_lt n (length waits) && get_or waits n 0 == 0) && nat_lt n number) ≡ ((nat_lt 0 n && nat_lt n (length waits) && get_or waits n 0 == 0) && nat_lt n (number + 1))
     go (inl e) = let same = ap (λ m. get_or waits m 0) e.1 in let more = ne_eqb (get_or waits number 0) 0 some in grind (arith, nat_tests)
     go (inr e) = let apart = e.1 in grind (arith, nat_tests)
+
+turned : (a b : ℕ) → (a == b) ≡ (b == a)
+turned a b = go (eqb_tells a b) (eqb_tells b a)
+  where
+    go : Same a b → Same b a → (a == b) ≡ (b == a)
+    go (inl e) (inl d) = e.0 ∙ sym d.0
+    go (inr e) (inr d) = e.0 ∙ sym d.0
+    go (inl e) (inr d) = absurd (d.1 (sym e.1))
+    go (inr e) (inl d) = absurd (e.1 (sym d.1))
+
+asked : (numbers : List ℕ) (n : ℕ) → list_any (eq_by_cmp nat_cmp n) numbers ≡ is_one_of numbers n
+asked [] n = refl
+asked (m ∷ ms) n =
+    ap (λ b. b || list_any (eq_by_cmp nat_cmp n) ms) (unsigned_tied n m ∙ turned n m) ∙ ap (λ b. (m == n) || b) (asked ms n)
+
+-- what the order of numbers does not tell from a number is that number
+pub one-in-set : (keys numbers : List ℕ) → ((n : ℕ) → list_any (eq_by_cmp nat_cmp n) keys ≡ list_any (eq_by_cmp nat_cmp n) numbers)
+    → (n : ℕ) → is_one_of keys n ≡ is_one_of numbers n
+one-in-set keys numbers same n = sym (asked keys n) ∙ same n ∙ asked numbers n
 
 and-or : (o b d z : Bool) → z ≡ true → ((o || (b && z)) || d) ≡ (o || ((b || d) && z))
 and-or true b d z h = refl

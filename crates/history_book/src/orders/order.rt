@@ -2,7 +2,9 @@
 //! cycle that forbids it.
 
 ghost use Rattle.std.specs.Prelude.{nat_lt, ◌≡◌, ◌≢◌, ◌<◌, ◌≤◌, ◌+◌, ◌^◌, ◌==◌, ◌&&◌, ◌||◌, ℕ, Bool, true, [], drop, length, slice_index, Some, IfOk, IfErr, OnOk, ◌++◌, if◌then◌else◌};
+ghost use Rattle.std.specs.BTreeSet.{IsFromIterResult};
 ghost use Rattle.std.specs.List.{IsFirstBest};
+ghost use Rattle.std.specs.Ordering.{nat_cmp};
 ghost use Rattle.history_book.specs.Orders.{is_one_of, least_order, IsCycle};
 ghost use Rattle.history_book.specs.Precedence.{precedes};
 ghost use Rattle.history_book.specs.Placing.{times, AreWaits, HasToWait, IsStuck, HasLeader, AreLeaders, IsLed, IsWalk, IsOrderFault};
@@ -87,18 +89,34 @@ fn count_down(counts: &mut [u128], numbers: &[usize])
     }
 }
 
+// The numbers that wait for none, as they rise.
+fn free_list(alloc: Global, waits: &[u128]) -> Result<Vec<usize>, AllocError>
+    ensures { IfOk result (λ free. (n : ℕ) → is_one_of free.items n
+        ≡ (nat_lt 0 n && nat_lt n (length waits.now) && slice_index waits.now n == 0)) }
+{
+    let mut free = Vec::new(alloc);
+    for number in 1..waits.len() {
+        if waits[number] == 0 {
+            free.push(number)?;
+        }
+    }
+    Ok(free)
+}
+
+// The set of some numbers. That of numbers which rise is built without a search for each.
+fn set_of(alloc: Global, numbers: Vec<usize>) -> Result<BTreeSet<usize>, AllocError>
+    ensures { IfOk result (IsFromIterResult nat_cmp numbers.items) }
+{
+    numbers.into_iter().collect(alloc)
+}
+
 // The numbers that wait for none.
 fn free_numbers(alloc: Global, waits: &[u128]) -> Result<BTreeSet<usize>, AllocError>
     ensures { IfOk result (λ free. (n : ℕ) → is_one_of free.keys n
         ≡ (nat_lt 0 n && nat_lt n (length waits.now) && slice_index waits.now n == 0)) }
 {
-    let mut free = BTreeSet::new(alloc);
-    for number in 1..waits.len() {
-        if waits[number] == 0 {
-            free.insert(number)?;
-        }
-    }
-    Ok(free)
+    let free = free_list(alloc, waits)?;
+    set_of(alloc, free)
 }
 
 // Adds those of some numbers that wait for none.
