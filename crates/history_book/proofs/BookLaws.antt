@@ -1,12 +1,14 @@
 -- A book stays true.
-use Rattle.std.proofs.Common.{◌≡◌, ℕ, suc, ◌+◌, ◌<◌, ◌≤◌, get_or, List, [], ◌∷◌, ◌++◌, length, refl, ap, sym, ◌∙◌, subst, true≢false, arith}
-use Rattle.std.specs.Prelude.{All, Option, Some, IsSome, None, slice_get}
+use Rattle.std.proofs.Common.{◌≡◌, ℕ, suc, ◌+◌, ◌<◌, ◌≤◌, cond, get_or, List, [], ◌∷◌, ◌++◌, length, refl, ap, sym, ◌∙◌, subst, true≢false, arith}
+use Rattle.std.specs.Prelude.{All, Option, Some, IsSome, None, is_some, slice_get}
 use Rattle.std.specs.BTreeMap.{is_at}
 use Rattle.std.proofs.lemmas.Option.{slice_get-get_or}
 use Rattle.std.specs.List.{range_with_len}
 use Rattle.std.specs.List.Sorted.{IsStrictlySortedBy}
 use Rattle.std.specs.Map.{keys_of, lookup}
-use Rattle.std.specs.Ordering.{nat_cmp}
+use Rattle.std.specs.Cmp.{nat_cmp_is}
+use Rattle.std.specs.Ordering.{nat_cmp, is_eq}
+use Rattle.std.specs.declared.cmp.Ordering.TheVariants.{Equal}
 use Rattle.std.proofs.lemmas.List.{length-append, length-map, map-append}
 use Rattle.std.proofs.lemmas.List.Elements.{All-nil, All-push, All-weaker}
 use Rattle.prog_tree.specs.declared.program.Draft.{Draft}
@@ -162,6 +164,34 @@ true-committed v number row w rows endings active floor book found commit one_ro
       floor = omega (arith, book.floor, longer, low);
       few = still_few v.endings endings (ending.Committed (length v.rows + 1)) v.active active number book.few found more is;
     }
+
+-- one number alone is in order
+alone : (n : ℕ) (i : Instance) → IsStrictlySortedBy nat_cmp (keys_of ((n, i) ∷ []))
+unfolding IsStrictlySortedBy
+alone n i = (tt, tt)
+
+-- an instance was begun where none is active, and has committed at once
+pub true-taken :
+    (v : BookView) (row : HistoryRow) (w : ChangeSet) (rows : List HistoryRow) (endings : List Ending) (floor : ℕ) → IsTrueBook v → v.active ≡ [] → length v.endings < most_endings →
+    v.floor ≤ row.start → IsCommit v row w → rows ≡ v.rows ++ row ∷ [] → endings ≡ v.endings ++ ending.Committed (length v.rows + 1) ∷ [] → floor ≡ v.floor →
+    IsTrueBook (record v { rows = rows; endings = endings; begun = v.begun + 1; floor = floor })
+true-taken v row w rows endings floor book none room above commit one_row more low =
+    let i = instance_of row in
+    let entries : List Entry = (v.begun, i) ∷ [] in
+    let with_it : BookView = record v { active = entries; begun = v.begun + 1 } in
+    let size : length (history_of v.rows) ≡ length v.rows = length-map v.rows instance_of in
+    let within : row.start ≤ length v.rows = omega (arith, commit.is_true.start, size) in
+    let few : length v.endings + length v.active < most_endings = omega (arith, room, ap length none) in
+    let is_true : IsTrueBook with_it =
+    true-begin v i entries book commit.is_true.called above within few
+    (ap (λ (es : List Entry). es ++ (v.begun, i) ∷ []) (sym none)) (alone v.begun i) in
+    let itself = nat_cmp_is v.begun v.begun Equal refl in
+    let found : IsSome (lookup (is_at (nat_cmp v.begun)) entries) = ap (λ o. is_some (cond (is_eq o) (Some i) None)) (sym itself) in
+    let gone : [] ≡ without v.begun entries = ap (λ o. cond (is_eq o) [] entries) itself in
+    let same : IsCommit with_it row w = record { is_true = commit.is_true; ready = commit.ready; changes = commit.changes; apart = commit.apart } in
+    subst (λ (active : List Entry). IsTrueBook (record v { rows = rows; endings = endings; active = active; begun = v.begun + 1; floor = floor })) (sym none)
+    (true-committed with_it v.begun row w rows endings [] floor is_true found same one_row more gone
+    (subst (λ (es : List Entry). IsStrictlySortedBy nat_cmp (keys_of es)) none book.by_number) low)
 
 -- the commits with one more
 pub commits-committed : (v : BookView) (row : HistoryRow) (w : ChangeSet) (rows : List HistoryRow) → IsCommit v row w → rows ≡ v.rows ++ row ∷ [] →

@@ -1,14 +1,15 @@
 //! How a book keeps what an instance ended in.
 
-ghost use Rattle.std.specs.Prelude.{◌≡◌, ◌+◌, ◌-◌, ◌<◌, ◌^◌, [], ◌∷◌, ◌++◌, length, None, IsSome, IfOk, OnOk, OnErr};
+ghost use Rattle.std.specs.Prelude.{◌≡◌, ◌+◌, ◌-◌, ◌<◌, ◌≤◌, ◌^◌, [], ◌∷◌, ◌++◌, length, None, IsSome, IfOk, OnOk, OnErr};
 ghost use Rattle.std.specs.BTreeMap.{is_at};
 ghost use Rattle.std.specs.Map.{lookup};
 ghost use Rattle.std.specs.Ordering.{nat_cmp};
 ghost use Rattle.prog_tree.specs.Tree.{draft_tree};
 ghost use Rattle.version_store.specs.StandsFor.{StandsFor, InEachHistory, KeepsHistories};
+ghost use Rattle.history_book.specs.Audit.{taken_up};
 ghost use Rattle.history_book.specs.Runs.{ended_in, committed_in, IsCommit};
 ghost use Rattle.history_book.specs.TrueBook.{IsTrueEnding, committed};
-ghost use Rattle.history_book.specs.View.{history_of, instance_of, done_in};
+ghost use Rattle.history_book.specs.View.{history_of, instance_of, done_in, most_endings, most_begins};
 
 use crate::book::Book;
 use crate::instances::row::{Ending, HistoryRow};
@@ -93,5 +94,29 @@ impl<'a> Book<'a> {
         )?;
         self.active.remove(number);
         Ok(commit)
+    }
+
+    /// Begins the instance of a row, and commits it by its run. It is no active one in between.
+    pub(crate) fn take_up(&mut self, row: HistoryRow, run: &Run<'_>) -> Result<(), AllocError>
+        requires none { self.old.active ≡ [] }
+        requires commit { IsCommit self.old row run.now.changes }
+        requires looks { run.now.looks ≡ (done_in self.old (instance_of row)).looks }
+        requires above { self.old.floor ≤ row.start }
+        requires room { length self.old.endings < most_endings }
+        requires more { self.old.begun < most_begins }
+        ensures { OnOk result (self.new ≡ taken_up self.old row) }
+    {
+        let trace = Trace::of(self.alloc, row.start, run)?;
+        add_commit(
+            &mut self.rows,
+            &mut self.endings,
+            &mut self.traces,
+            &mut self.store,
+            row,
+            trace,
+            run.changes(),
+        )?;
+        self.begun += 1;
+        Ok(())
     }
 }

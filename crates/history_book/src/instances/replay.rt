@@ -1,14 +1,14 @@
 //! Runs that read in a book: those of its instances, and those that are made again.
 
-ghost use Rattle.std.specs.Prelude.{◌≡◌, ◌<◌, ◌≤◌, [], Some, IsSome, length, IfOk, IfErr, OnOk, OnErr};
+ghost use Rattle.std.specs.Prelude.{◌≡◌, ◌≤◌, Some, IsSome, length, IfOk, IfErr, OnOk, OnErr};
 ghost use Rattle.prog_tree.specs.Table.{rows_in};
 ghost use Rattle.prog_tree.specs.Tree.{draft_tree};
 ghost use Rattle.prog_run.specs.Looks.{AreFound};
 ghost use Rattle.prog_run.specs.View.{IsTrueRun, SameBegin};
-ghost use Rattle.history_book.specs.Audit.{CameTo, taken_up};
+ghost use Rattle.history_book.specs.Audit.{CameTo};
 ghost use Rattle.history_book.specs.History.{IsCalled};
-ghost use Rattle.history_book.specs.Runs.{IsCommit, StaysOwn, StepsTo, StopsShort};
-ghost use Rattle.history_book.specs.View.{active_at, done_in, instance_of, state_in, most_endings, most_begins};
+ghost use Rattle.history_book.specs.Runs.{StaysOwn, StepsTo, StopsShort};
+ghost use Rattle.history_book.specs.View.{active_at, done_in, instance_of, state_in};
 
 use crate::book::Book;
 use crate::instances::row::HistoryRow;
@@ -128,20 +128,5 @@ impl<'a> Book<'a> {
         };
         self.finish(row.start, &mut run)?;
         Ok(run)
-    }
-
-    /// Begins the instance of a row, and commits it by its run.
-    pub(crate) fn take_up(&mut self, row: HistoryRow, run: &Run<'_>) -> Result<(), AllocError>
-        requires none { self.old.active ≡ [] }
-        requires commit { IsCommit self.old row run.now.changes }
-        requires looks { run.now.looks ≡ (done_in self.old (instance_of row)).looks }
-        requires above { self.old.floor ≤ row.start }
-        requires room { length self.old.endings < most_endings }
-        requires more { self.old.begun < most_begins }
-        ensures { OnOk result (self.new ≡ taken_up self.old row) }
-    {
-        let ticket = self.admit(row.start, row.program, row.args.as_slice())?;
-        self.install(ticket.number, row, run)?;
-        Ok(())
     }
 }
