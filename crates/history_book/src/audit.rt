@@ -6,8 +6,7 @@ ghost use Rattle.history_book.specs.Audit.{CameTo, audited, taken_up, CanBeginIn
 ghost use Rattle.history_book.specs.View.{done_in, instance_of, most_endings, most_begins};
 
 use crate::book::{Book, is_ready, read_numbers};
-use crate::instances::row::HistoryRow;
-use crate::instances::snapshot::same_numbers;
+use crate::instances::row::{HistoryRow, same_numbers};
 use crate::limits::MAX_ENDINGS;
 use prog_check::ProgramSet;
 use prog_run::Run;

@@ -2,7 +2,6 @@
 
 ghost use Rattle.std.specs.Prelude.{◌≡◌, ◌↔◌, IsTrue};
 
-use crate::instances::snapshot::same_numbers;
 use prog_tree::{Cause, Sequence};
 use version_store::Clash;
 
@@ -26,6 +25,13 @@ pub enum Ending {
     Clashed { row: HistoryRow, clash: Clash },
     /// Its program aborted.
     Aborted { row: HistoryRow, cause: Cause },
+}
+
+/// Whether both are the same numbers.
+pub(crate) fn same_numbers(numbers: &[i64], others: &[i64]) -> bool
+    ensures { IsTrue result ↔ (numbers.now ≡ others.now) }
+{
+    numbers == others
 }
 
 impl HistoryRow {

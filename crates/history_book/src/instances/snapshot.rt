@@ -15,18 +15,12 @@ ghost use Rattle.history_book.specs.View.{row_of, active_at, commits_in, state_i
 use crate::book::Book;
 use crate::fault::{Difference, Refusal};
 use crate::instances::active::Active;
-use crate::instances::row::HistoryRow;
+use crate::instances::row::{HistoryRow, same_numbers};
 use crate::instances::ticket::Ticket;
 use prog_run::Run;
 use prog_tree::{Cell, Changes, Look, Region, RisingCells, Sequence, same_tables};
 use std::alloc::{AllocError, Global};
 use version_store::Clash;
-
-pub(crate) fn same_numbers(numbers: &[i64], others: &[i64]) -> bool
-    ensures { IsTrue result ↔ (numbers.now ≡ others.now) }
-{
-    numbers == others
-}
 
 // Whether the last of some looks is this one.
 fn is_last(looks: &[Look], look: &Look) -> bool

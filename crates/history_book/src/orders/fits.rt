@@ -13,8 +13,7 @@ ghost use Rattle.history_book.specs.TrueBook.{IsTrueRow};
 ghost use Rattle.history_book.specs.View.{FitsBook, history_of, instance_of, state_in, most_endings, most_begins};
 
 use crate::book::{Book, is_ready};
-use crate::instances::row::HistoryRow;
-use crate::instances::snapshot::same_numbers;
+use crate::instances::row::{HistoryRow, same_numbers};
 use crate::limits::MAX_ORDERED;
 use prog_tree::Rows;
 use std::alloc::{AllocError, Global};

@@ -4,7 +4,7 @@ ghost use Rattle.std.specs.Prelude.{◌≡◌, if◌then◌else◌, Some, None, 
 ghost use Rattle.history_book.specs.Orders.{IsUpTo};
 ghost use Rattle.history_book.specs.Reasons.{by_change, by_look, changed_before, change_reason};
 ghost use Rattle.history_book.specs.Reasons.{missed_at, missed_by, told_reason};
-ghost use Rattle.history_book.specs.Traces.{changed_at, trace_at};
+ghost use Rattle.history_book.specs.Traces.{trace_at};
 
 use crate::orders::trace::{Sight, Trace, trace_at};
 use prog_tree::{Cell, Region};
@@ -22,13 +22,6 @@ pub enum Reason {
     MissedIn(Region, Cell),
 }
 
-// Whether a commit changed a cell.
-fn changed_at(trace: &Trace, cell: &Cell) -> bool
-    ensures { result ≡ changed_at trace.now cell.now }
-{
-    trace.changed.contains(cell)
-}
-
 // Why the first stands before the second, by a cell that it changed.
 fn change_reason_at(traces: &[Trace], first: usize, second: usize, cell: &Cell) -> Option<Reason>
     requires first { IsUpTo (length traces.now) first }
@@ -37,7 +30,7 @@ fn change_reason_at(traces: &[Trace], first: usize, second: usize, cell: &Cell) 
         then Some (change_reason first second (trace_at traces.now second) cell.now) else None }
 {
     let after = trace_at(traces, second);
-    if first < second && changed_at(after, cell) {
+    if first < second && after.changed_at(cell) {
         return Some(Reason::Both(*cell));
     }
     if first as u64 <= after.start && after.looked_at(cell) {

@@ -1,6 +1,6 @@
 use Rattle.std.proofs.Common.{rules}
 use Rattle.std.proofs.lemmas.Slice.Eq.{slice_eq-Decides}
-use Rattle.history_book.proofs.instances.snapshot.same_numbers.Goals as goal
+use Rattle.history_book.proofs.instances.row.same_numbers.Goals as goal
 
 pub returns : goal.returns
 returns c = slice_eq-Decides (λ a b. search rules) _ _ _ c.eq.ensures
