@@ -23,6 +23,12 @@ use Rattle.history_book.proofs.HistoryLaws.{lawful-nil, lawful-push, length-comm
 use Rattle.history_book.proofs.StateLaws.{nth_instance-behind, state_at-commits_after, commits_of-is}
 use Rattle.history_book.proofs.BookLaws.{history-push}
 
+-- an element of a list is one of a longer list
+pub still_there : {X : Type 0} (xs ys : List X) (n : ℕ) (x : X) → slice_get xs n ≡ Some x → slice_get (xs ++ ys) n ≡ Some x
+still_there [] ys n x found = absurd (cc)
+still_there (y ∷ xs) ys zero x found = found
+still_there (y ∷ xs) ys (suc n) x found = still_there xs ys n x found
+
 module _ (set : DraftTree) (opening : TableState) where
   -- ---- right rows are lawful
 
@@ -99,11 +105,6 @@ module _ (set : DraftTree) (opening : TableState) where
       let within : b.start ≤ length (commits_of set opening h) = omega (arith, length-commits_of set opening h) in
       ap (eval_of set b)
       (ap (λ ws. state_at opening ws b.start) (commits_after-append [] h more) ∙ state_at-commits_after set opening (commits_of set opening h) more b.start within)
-
-  still_there : {X : Type 0} (xs ys : List X) (n : ℕ) (x : X) → slice_get xs n ≡ Some x → slice_get (xs ++ ys) n ≡ Some x
-  still_there [] ys n x found = absurd (cc)
-  still_there (y ∷ xs) ys zero x found = found
-  still_there (y ∷ xs) ys (suc n) x found = still_there xs ys n x found
 
   still_numbered : (h more : List Instance) (n : ℕ) (b : Instance) → nth_instance h n ≡ Some b → nth_instance (h ++ more) n ≡ Some b
   still_numbered h more zero b found = found

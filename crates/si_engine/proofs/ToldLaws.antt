@@ -18,6 +18,7 @@ use Rattle.version_store.specs.Clash.{clash_of}
 use Rattle.version_store.specs.Versions.{reclaimed}
 use Rattle.history_book.specs.History.{Instance, evaluation, commits_of}
 use Rattle.history_book.proofs.HistoryLaws.{evaluation-push, get-push}
+use Rattle.history_book.proofs.RightLaws.{still_there}
 use Rattle.si_engine.specs.declared.event.Event.{Event}
 use Rattle.si_engine.specs.declared.event.Event.TheVariants as event
 use Rattle.si_engine.specs.declared.event.Reply.{Reply}
@@ -36,16 +37,10 @@ only x y (suc k, inside, is) = absurd (omega (arith, inside))
 itself : {X : Type 0} (x : X) → Contains (x ∷ []) x
 itself x = (0, omega arith, refl)
 
--- a place of a longer list that was there
-get-longer : {X : Type 0} (xs : List X) (x y : X) (i : ℕ) → slice_get xs i ≡ Some y → slice_get (xs ++ x ∷ []) i ≡ Some y
-get-longer [] x y i at = absurd (cc)
-get-longer (z ∷ xs) x y zero at = at
-get-longer (z ∷ xs) x y (suc i) at = get-longer xs x y i at
-
--- and of the commits that were noted
+-- a commit that was noted still is, behind one more
 committed_at-longer : (xs : List ℕ) (x y n : ℕ) → committed_at xs n ≡ Some y → committed_at (xs ++ x ∷ []) n ≡ Some y
 committed_at-longer xs x y zero at = absurd (cc)
-committed_at-longer xs x y (suc n) at = get-longer xs x y n at
+committed_at-longer xs x y (suc n) at = still_there xs (x ∷ []) n y at
 
 -- and the new one
 get-last : {X : Type 0} (xs : List X) (x : X) → slice_get (xs ++ x ∷ []) (length xs) ≡ Some x
@@ -293,7 +288,7 @@ module _ (draft : DraftTree) (opening : TableState) where
     begun_told =
         answered said beginning s with_one told tells_nothing (begins_alone begin (call_of_instance begins) beginning.1 asks) no_commit_there refl
         (λ i b at. active_at i b (get-push s.begun (Some (at_begin begins)) (Some b) i at))
-        (λ i at. get-longer s.begun (Some (at_begin begins)) None i at)
+        (λ i at. still_there s.begun (Some (at_begin begins) ∷ []) i None at)
         (omega (arith, length-append s.begun (Some (at_begin begins) ∷ [])))
       where
         active_at : (i : ℕ) (b : Active) →
