@@ -19,9 +19,6 @@ pub touch_holds : (n : ℕ) (touch : Touch) (chain : Chain) → with_touch n tou
 touch_holds n (Change value) chain h = not_pushed chain.versions (n, value) (ap (λ (x : Chain). x.versions) h)
 touch_holds n Keep chain h = not_pushed chain.marks n (ap (λ (x : Chain). x.marks) h)
 
-pub none_holds : EachHolds []
-none_holds c = tt
-
 -- what is found holds something
 pub found_holds : (m : Cells Chain) (cell : Cell) (chain : Chain) → Some chain ≡ at_cell m cell → EachHolds m → chain ≡ no_chain → ⊥
 found_holds m cell chain found holds = subst HoldsSome (sym found) (holds cell)

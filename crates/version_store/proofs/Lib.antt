@@ -6,6 +6,7 @@ pub mod CountLaws
 pub mod FoundLaws
 pub mod HoldLaws
 pub mod NewestLaws
+pub mod OpeningLaws
 pub mod PendingLaws
 pub mod RisingLaws
 pub mod ScanLaws

@@ -1,47 +1,18 @@
--- What walks over the touches of a commit, and over opening rows, keep.
+-- What walks over the touches of a commit keep.
 use Rattle.std.proofs.Common.{◌≡◌, ◌∙◌, ℕ, ℤ, Bool, true, false, ◌||◌, cond, if◌then◌else◌, List, [], ◌∷◌, ◌++◌, refl, ap, sym, subst, arith, nat_lt}
-use Rattle.std.specs.Prelude.{Option, Some, None, filter}
+use Rattle.std.specs.Prelude.{Option, filter}
 use Rattle.std.specs.List.Sorted.{IsStrictlySortedBy}
-use Rattle.std.specs.Option.{option_or}
 use Rattle.std.proofs.lemmas.Bool.Decides.{nat_tests}
 use Rattle.prog_tree.specs.declared.cell.Cell.{Cell}
 use Rattle.prog_tree.specs.ChangeSet.{ChangeSet}
-use Rattle.prog_tree.specs.Table.{cell_cmp, Cells, cells_of, at_cell, is_same_cell, is_cell_among}
+use Rattle.prog_tree.specs.Table.{cell_cmp, Cells, cells_of, is_same_cell, is_cell_among}
 use Rattle.prog_tree.proofs.CellSets.{same-turned}
 use Rattle.version_store.specs.declared.touches.Touch.{Touch}
 use Rattle.version_store.specs.declared.touches.Touch.TheVariants.{Change, Keep}
 use Rattle.version_store.specs.StandsFor.{Chain, EachHolds}
-use Rattle.version_store.specs.Reading.{chain_at, with_entry, with_version, with_mark, with_commit, cut_from, IsGrown, MakesAt, MakesTouched}
+use Rattle.version_store.specs.Reading.{chain_at, with_version, with_mark, with_commit, cut_from, IsGrown, MakesAt, MakesTouched}
 use Rattle.version_store.specs.Touches.{with_touch}
-use Rattle.version_store.proofs.ChainsLaws.{at_cell-last, entry_turn, sorted_front}
 use Rattle.version_store.proofs.TouchLaws.{among_touches, commit_touches, touches_of, with_touches}
-
--- with the entries that are left, the chains are what they will be at the end, and these are entries of the map
-pub record AddsEntries {A : Type 0} (f : A → Chain → Chain) (entries rest : Cells A) (before now : Cells Chain) : Type 0 where
-  pub sorted : IsStrictlySortedBy cell_cmp (cells_of rest)
-  pub ends : (c : Cell) → with_entry f (at_cell rest c) (chain_at now c) ≡ with_entry f (at_cell entries c) (chain_at before c)
-  pub within : (c : Cell) → at_cell entries c ≡ None → at_cell rest c ≡ None
-  pub hold : EachHolds before → EachHolds now
-
-pub entries_begin : {A : Type 0} (f : A → Chain → Chain) (entries : Cells A) (before : Cells Chain) → IsStrictlySortedBy cell_cmp (cells_of entries) → AddsEntries f entries entries before before
-entries_begin f entries before sorted = record { sorted = sorted; ends = λ c. refl; within = λ c none. none; hold = λ holds. holds }
-
-pub last_entry :
-    {A : Type 0} (f : A → Chain → Chain) (entries left rest : Cells A) (k : Cell) (entry : A) (before now next : Cells Chain) →
-    left ≡ rest ++ (k, entry) ∷ [] → AddsEntries f entries left before now → MakesAt k (f entry) now next → (EachHolds now → EachHolds next) → AddsEntries f entries rest before next
-last_entry {A = A} f entries left rest k entry before now next is so_far made holds_next = record {
-  sorted = sorted_front rest (k, entry) h.sorted;
-  ends = λ c. entry_turn f now next k entry rest h.sorted made c ∙ h.ends c;
-  within = λ c none. go (at_cell rest c) (cond (is_same_cell c k) (Some entry) None) (sym (at_cell-last rest (k, entry) c) ∙ h.within c none);
-  hold = λ holds. holds_next (h.hold holds);
-}
-  where
-    h : AddsEntries f entries (rest ++ (k, entry) ∷ []) before now
-    h = subst (λ (es : Cells A). AddsEntries f entries es before now) is so_far
-
-    go : (o p : Option A) → option_or o p ≡ None → o ≡ None
-    go None p none = refl
-    go (Some x) p none = absurd (cc)
 
 -- ---- walks over the touches of a commit
 

@@ -3,7 +3,7 @@ use Rattle.std.specs.Prelude.{◌≡◌, ℕ, ◌+◌, ◌≤◌, ⊤, ℤ, max,
 use Rattle.std.specs.List.Sorted.{IsPartitionPoint}
 use Rattle.prog_tree.specs.declared.cell.Cell.{Cell}
 use Rattle.prog_tree.specs.ChangeSet.{ChangeSet, change_at, touches_cell}
-use Rattle.prog_tree.specs.Table.{Cells, at_cell, is_same_cell, is_cell_among}
+use Rattle.prog_tree.specs.Table.{Cells, TableState, at_cell, is_same_cell, is_cell_among}
 use Rattle.version_store.specs.StandsFor.{Chain, no_chain, HoldsSome}
 
 -- the chain of a cell; a cell without a chain has an empty one
@@ -71,6 +71,14 @@ with_entry f (Some entry) chain = f entry chain
 -- a chain with the version of an opening row
 abbrev pub with_opening_row : Option ℤ → Chain → Chain
 with_opening_row = with_entry (λ value. with_version 0 (Some value))
+
+-- the chain of an opening row
+abbrev pub opening_chain : ℤ → Chain
+opening_chain value = with_version 0 (Some value) no_chain
+
+-- opening rows with their chains in place of their values
+abbrev pub opening_chains : TableState → Cells Chain
+opening_chains = map (λ (row : Cell × ℤ). (row.0, opening_chain row.1))
 
 -- a chain with the version of a commit that changes its cell
 abbrev pub with_change_by : ℕ → Option (Option ℤ) → Chain → Chain

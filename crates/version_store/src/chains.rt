@@ -1,10 +1,12 @@
 //! The chains of all cells.
 ghost use Rattle.std.specs.Prelude.{◌≡◌, ◌+◌, ◌-◌, ◌≤◌, ◌^◌, [], Some, min};
 ghost use Rattle.std.specs.Prelude.{IfOk, IsTrue, IsFalse, OnOk, OnErr};
+ghost use Rattle.std.specs.BTreeMap.{IsFromIterResult};
 ghost use Rattle.std.specs.List.Sorted.{IsStrictlySortedBy};
-ghost use Rattle.prog_tree.specs.Table.{cell_cmp, cells_of, row_at};
+ghost use Rattle.prog_tree.specs.Table.{cell_cmp, cells_of, row_at, IsTableState};
 ghost use Rattle.version_store.specs.Reading.{AllRise, chain_at, value_at, number_at};
-ghost use Rattle.version_store.specs.Reading.{with_opening_row, with_commit, cut_from, IsGrown};
+ghost use Rattle.version_store.specs.Reading.{opening_chains, with_opening_row, with_commit};
+ghost use Rattle.version_store.specs.Reading.{cut_from, IsGrown};
 ghost use Rattle.version_store.specs.Reading.{MakesAt, MakesEach, MakesTouched, KeepsBelow, OthersHold};
 ghost use Rattle.version_store.specs.StandsFor.{no_chain, size, trimmed, EachHolds};
 ghost use Rattle.version_store.specs.Touches.{with_touch};
@@ -35,16 +37,28 @@ impl Model for Chains {
     ghost view = { λ c. c.chains.entries };
 }
 
-impl Chains {
-    pub fn new(alloc: Global) -> Self
-        ensures { result ≡ [] }
-    {
-        Chains {
-            alloc,
-            chains: BTreeMap::new(alloc),
-        }
+// The chains of opening rows with their cells, in the order of these.
+fn opening_chains(alloc: Global, opening: &Rows) -> Result<Vec<(Cell, Chain)>, AllocError>
+    ensures chains { IfOk result (λ chains. chains.items ≡ opening_chains opening.now) }
+    ensures ordered { IfOk result (λ chains. IsTableState opening.now) }
+{
+    let mut chains = Vec::with_capacity(alloc, opening.len())?;
+    for (cell, value) in opening.iter() {
+        let mut chain = Chain::new(alloc);
+        chain.add(0, Touch::Change(Some(*value)))?;
+        chains.push((*cell, chain))?;
     }
+    Ok(chains)
+}
 
+// The map of chains with their cells. That of cells which rise is built without a search for each.
+fn map_of(alloc: Global, chains: Vec<(Cell, Chain)>) -> Result<BTreeMap<Cell, Chain>, AllocError>
+    ensures { IfOk result (IsFromIterResult cell_cmp chains.items) }
+{
+    chains.into_iter().collect(alloc)
+}
+
+impl Chains {
     /// What a cell held after the first `start` commits.
     pub fn get(&self, start: u64, cell: &Cell) -> Option<i64>
         ensures { AllRise self.now → result ≡ value_at start (chain_at self.now cell.now) }
@@ -141,13 +155,9 @@ impl Chains {
             MakesEach (λ c. with_opening_row (row_at opening.now c)) [] chains) }
         ensures hold { IfOk result (λ chains. EachHolds chains) }
     {
-        let mut chains = Chains::new(alloc);
-        // From the last row on: the map looks through the cells of a node from the least on, so the
-        // place before all of them is found at once.
-        for (cell, value) in opening.iter().rev() {
-            chains.add(*cell, 0, Touch::Change(Some(*value)))?;
-        }
-        Ok(chains)
+        let rows = opening_chains(alloc, opening)?;
+        let chains = map_of(alloc, rows)?;
+        Ok(Chains { alloc, chains })
     }
 
     // Adds the touches of a commit, or some of them.
