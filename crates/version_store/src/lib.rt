@@ -10,6 +10,7 @@ mod pending;
 mod rare;
 mod scan;
 mod store;
+mod tail;
 mod touches;
 mod version;
 mod versions;

@@ -4,6 +4,7 @@ ghost use Rattle.std.specs.Fn.{CalledAt};
 ghost use Rattle.std.specs.List.Retain.{IsFiltered};
 ghost use Rattle.std.specs.Option.{option_to_list};
 
+use crate::tail::Tail;
 use std::alloc::{AllocError, Global};
 use std::marker::Model;
 
@@ -11,7 +12,7 @@ use std::marker::Model;
 #[derive(Debug, Drop)]
 pub struct Rare<T> {
     alloc: Global,
-    items: Option<Box<Vec<T>>>,
+    items: Option<Box<Tail<T>>>,
 }
 
 impl<T> Model for Rare<T> {
@@ -20,18 +21,7 @@ impl<T> Model for Rare<T> {
 
     ghost Value = { List T };
 
-    ghost view = { λ r. option_map_or (λ b. b.value.items) r.items [] };
-}
-
-// Drops the first items, and where there are any gives back the room that is not needed.
-fn drop_front<T: Drop>(items: &mut Vec<T>, count: usize)
-    requires { count ≤ length items.old.items }
-    ensures { items.new.items ≡ drop count items.old.items }
-{
-    if count > 0 {
-        items.drain(..count);
-        items.shrink_to_fit();
-    }
+    ghost view = { λ r. option_map_or (λ b. b.value) r.items [] };
 }
 
 impl<T> Rare<T> {
@@ -61,7 +51,7 @@ impl<T: Drop> Rare<T> {
             items.push(item)?;
             return Ok(());
         }
-        let mut items = Vec::new(self.alloc);
+        let mut items = Tail::new(self.alloc);
         items.push(item)?;
         self.items = Some(Box::new(self.alloc, items)?);
         Ok(())
@@ -98,7 +88,7 @@ impl<T: Drop> Rare<T> {
         let Some(items) = &mut self.items else {
             return;
         };
-        drop_front(items.as_mut(), count);
+        items.drop_first(count);
     }
 
     /// Drops all items, and gives their room back.
