@@ -1,7 +1,6 @@
 pub mod ActiveLaws
 pub mod AuditLaws
 pub mod BeginLaws
-pub mod BeginningLaws
 pub mod BookLaws
 pub mod ClashLaws
 pub mod CommitLaws
@@ -38,6 +37,7 @@ pub mod RunsInOrder
 pub mod SerialBooks
 pub mod SerialLaws
 pub mod SightPairs
+pub mod StartLaws
 pub mod StateLaws
 pub mod TestLaws
 pub mod TraceLaws

@@ -7,7 +7,7 @@ use Rattle.std.proofs.lemmas.Bool.{cases_Bool, false≢true}
 use Rattle.std.proofs.lemmas.Bool.Decides.{nat_tests, eqb_tells}
 use Rattle.std.proofs.lemmas.List.{map-set, get_or-map, get_or-set_same, get_or-set_other, set-get_or, length-set, length-map}
 use Rattle.history_book.specs.Orders.{is_one_of}
-use Rattle.history_book.specs.Precedence.{number_lists, behind, precedes, NamesCommits}
+use Rattle.history_book.specs.Precedence.{number_lists, behind, precedes, HasCommitsAlone}
 use Rattle.history_book.proofs.NumberLists.{Same, Either, one-push}
 use Rattle.history_book.proofs.PlacingLaws.{behind-at}
 
@@ -81,10 +81,10 @@ module _ (items : List (Vec ℕ Global)) (lists : List (List ℕ)) (view : numbe
   long-kept : length (number_lists (set items (first - 1) new)) ≡ length lists
   long-kept = ap (λ (w : List (List ℕ)). length w) changed ∙ length-set lists (first - 1) new.items
 
-  pub within-kept : new.items ≡ old.items → NamesCommits lists → NamesCommits (number_lists (set items (first - 1) new))
-  within-kept e within = subst (λ (w : List (List ℕ)). NamesCommits w) (sym (kept e)) within
+  pub within-kept : new.items ≡ old.items → HasCommitsAlone lists → HasCommitsAlone (number_lists (set items (first - 1) new))
+  within-kept e within = subst (λ (w : List (List ℕ)). HasCommitsAlone w) (sym (kept e)) within
 
-  pub within-added : new.items ≡ old.items ++ second ∷ [] → 0 < second → second ≤ length lists → NamesCommits lists → NamesCommits (number_lists (set items (first - 1) new))
+  pub within-added : new.items ≡ old.items ++ second ∷ [] → 0 < second → second ≤ length lists → HasCommitsAlone lists → HasCommitsAlone (number_lists (set items (first - 1) new))
   within-added e above below within i j h = go (cases_Bool (precedes lists i j)) (eqb_tells j second) (cases_Bool (i == first)) (sym (added e i j) ∙ h)
     where
       go : Either (precedes lists i j) → Same j second → Either (i == first)

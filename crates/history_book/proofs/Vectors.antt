@@ -14,7 +14,7 @@ use Rattle.prog_tree.specs.Syntax as s
 use Rattle.prog_tree.specs.Table.{TableState}
 use Rattle.history_book.specs.History.{Instance, eval_of, commits_of, evaluation, state_after}
 use Rattle.history_book.specs.TrueBook.{committed}
-use Rattle.history_book.specs.ActiveSet.{is_beginning_of}
+use Rattle.history_book.specs.ActiveSet.{is_start_of}
 use Rattle.history_book.specs.View.{BookView, instance_of, row_of, nth_row, with_start, without, least_start, vacuumed, start_fault, full_fault, fault_at, fault_by, ticket_at, next_ticket, begun_at}
 use Rattle.history_book.specs.declared.fault.BeginFault.TheVariants as begin
 use Rattle.history_book.specs.declared.instances.row.Ending.TheVariants as ending
@@ -132,10 +132,10 @@ later_and_older = (3, call 2 (pos 1 ∷ []) 4) ∷ (5, old_look) ∷ []
 pub least_of_the_later : least_start 9 later_and_older ≡ 1
 least_of_the_later = refl
 
-pub beginning_there : is_beginning_of later_and_older (record { start = 1; number = 5 }) ≡ true
+pub beginning_there : is_start_of later_and_older (record { start = 1; number = 5 }) ≡ true
 beginning_there = refl
 
-pub beginning_of_another_start : is_beginning_of later_and_older (record { start = 4; number = 5 }) ≡ false
+pub beginning_of_another_start : is_start_of later_and_older (record { start = 4; number = 5 }) ≡ false
 beginning_of_another_start = refl
 
 -- ---- begins at a number

@@ -18,5 +18,5 @@ abbrev pub precedes : List (List ℕ) → ℕ → ℕ → Bool
 precedes lists i j = is_one_of (behind lists i) j
 
 -- whatever has to stand behind a number is one of the numbers from 1 on
-abbrev pub NamesCommits : List (List ℕ) → Type 0
-NamesCommits lists = (i j : ℕ) → precedes lists i j ≡ true → (0 < j) × (j ≤ length lists)
+abbrev pub HasCommitsAlone : List (List ℕ) → Type 0
+HasCommitsAlone lists = (i j : ℕ) → precedes lists i j ≡ true → (0 < j) × (j ≤ length lists)

@@ -65,7 +65,7 @@ impl<'a> Model for Run<'a> {
 }
 
 // For how many statements a run makes room at most before it has done any.
-const MOST_FIRST_ROOM: usize = 16;
+const MOST_FIRST_STATEMENTS: usize = 16;
 
 /// The parameters with their arguments, with room for so many names more.
 fn bind_all<'a>(
@@ -105,7 +105,7 @@ impl<'a> Run<'a> {
             return Err(RunFault::WrongArguments);
         }
         let body = program.body.stmts.as_slice();
-        let room = body.len().min(MOST_FIRST_ROOM);
+        let room = body.len().min(MOST_FIRST_STATEMENTS);
         let env = bind_all(alloc, &program.params, args, room)?;
         Ok(Run {
             set,

@@ -1,7 +1,7 @@
 -- Laws of what is read from a chain.
 use Rattle.std.proofs.Common.{◌≡◌, ℕ, zero, suc, ◌+◌, ◌-◌, ◌<◌, ◌≤◌, true, false, List, [], ◌∷◌, length, refl, ap, sym, ◌∙◌, cond, arith, leb, get_or}
 use Rattle.std.specs.Prelude.{ℤ, Option, Some, None, slice_get}
-use Rattle.version_store.specs.Reading.{number_of, IsCutAt, value_after, last_number_or}
+use Rattle.version_store.specs.Reading.{version_number, IsCutAt, value_after, last_number_or}
 use Rattle.version_store.proofs.RisingLaws.{cut_rest, cut_none}
 
 -- ---- the last one
@@ -25,17 +25,17 @@ pub value_after-none : (n : ℕ) (before : Option ℤ) (vs : List (ℕ × Option
 value_after-none n before [] cut = refl
 value_after-none n before (v ∷ vs) cut =
     let above : leb v.0 n ≡ false = cut.1 0 v (omega arith) (omega arith) in
-    value_after-none n before vs (cut_none number_of n v vs cut) ∙ ap (λ b. value_after n (cond b v.1 before) vs) (sym above)
+    value_after-none n before vs (cut_none version_number n v vs cut) ∙ ap (λ b. value_after n (cond b v.1 before) vs) (sym above)
 
 -- the last of those that are at most n counts
 pub value_after-at : (n : ℕ) (before : Option ℤ) (vs : List (ℕ × Option ℤ)) (j : ℕ) (d : ℕ × Option ℤ) → IsCutAt n vs (suc j) → j < length vs → (get_or vs j d).1 ≡ value_after n before vs
 value_after-at n before [] j d cut within = absurd (omega arith)
 value_after-at n before (v ∷ vs) zero d cut within =
     let here : leb v.0 n ≡ true = cut.0 0 v (omega arith) (omega arith) in
-    value_after-none n v.1 vs (cut_rest number_of n v vs 0 cut) ∙ ap (λ b. value_after n (cond b v.1 before) vs) (sym here)
+    value_after-none n v.1 vs (cut_rest version_number n v vs 0 cut) ∙ ap (λ b. value_after n (cond b v.1 before) vs) (sym here)
 value_after-at n before (v ∷ vs) (suc j) d cut within =
     let here : leb v.0 n ≡ true = cut.0 0 v (omega arith) (omega arith) in
-    value_after-at n v.1 vs j d (cut_rest number_of n v vs (suc j) cut) (omega arith) ∙ ap (λ b. value_after n (cond b v.1 before) vs) (sym here)
+    value_after-at n v.1 vs j d (cut_rest version_number n v vs (suc j) cut) (omega arith) ∙ ap (λ b. value_after n (cond b v.1 before) vs) (sym here)
 
 -- what is read where no version is at most n, and where some are
 pub read_none : (n : ℕ) (vs : List (ℕ × Option ℤ)) (r : ℕ) → IsCutAt n vs r → r ≡ 0 → None ≡ value_after n None vs

@@ -21,19 +21,19 @@ use Rattle.prog_tree.proofs.TableStates.{cell_is}
 use Rattle.version_store.specs.Reading.{RisesFrom, chain_at}
 use Rattle.version_store.specs.StandsFor.{Chain, no_chain, version_by, changes_of, chain_of, trimmed, size, AreCommits}
 use Rattle.version_store.specs.Trimming.{shown, versions_kept}
-use Rattle.version_store.specs.Versions.{Version, versions_from, versions_of, is_newest, is_retained, retained, versions_at}
+use Rattle.version_store.specs.Versions.{CellVersion, versions_from, versions_of, is_newest, is_retained, retained, versions_at}
 use Rattle.version_store.proofs.TrimLaws.{kept_above}
 use Rattle.version_store.proofs.VersionLaws.{chain_rises, made_by, of_row}
 
 -- ---- chains, and lists of versions that have as many of each cell
 
-abbrev pub is_of : Cell → Version → Bool
+abbrev pub is_of : Cell → CellVersion → Bool
 is_of c v = is_same_cell c v.cell
 
-abbrev pub is_not_of : Cell → Version → Bool
+abbrev pub is_not_of : Cell → CellVersion → Bool
 is_not_of c v = not (is_same_cell c v.cell)
 
-none_of_others : (k : Cell) (ys : List Version) → filter (is_of k) (filter (is_not_of k) ys) ≡ []
+none_of_others : (k : Cell) (ys : List CellVersion) → filter (is_of k) (filter (is_not_of k) ys) ≡ []
 none_of_others k [] = refl
 none_of_others k (y ∷ ys) = go (is_same_cell k y.cell) refl (none_of_others k ys)
   where
@@ -42,7 +42,7 @@ none_of_others k (y ∷ ys) = go (is_same_cell k y.cell) refl (none_of_others k 
     go false apart rest = ap (λ b. cond b (y ∷ filter (is_of k) (filter (is_not_of k) ys)) (filter (is_of k) (filter (is_not_of k) ys))) apart ∙ rest
 
 -- another cell's versions are all among the others
-others_of : (c k : Cell) (ys : List Version) → is_same_cell c k ≡ false → filter (is_of c) (filter (is_not_of k) ys) ≡ filter (is_of c) ys
+others_of : (c k : Cell) (ys : List CellVersion) → is_same_cell c k ≡ false → filter (is_of c) (filter (is_not_of k) ys) ≡ filter (is_of c) ys
 others_of c k [] apart = refl
 others_of c k (y ∷ ys) apart = go (is_same_cell k y.cell) refl (others_of c k ys apart)
   where
@@ -54,12 +54,12 @@ others_of c k (y ∷ ys) apart = go (is_same_cell k y.cell) refl (others_of c k 
     go true same rest = rest ∙ ap (λ b. cond b (y ∷ filter (is_of c) ys) (filter (is_of c) ys)) (sym (away same))
     go false other rest = ap (λ xs. cond (is_same_cell c y.cell) (y ∷ xs) xs) rest
 
-no_versions : (ys : List Version) → ((c : Cell) → 0 ≡ length (filter (is_of c) ys)) → 0 ≡ length ys
+no_versions : (ys : List CellVersion) → ((c : Cell) → 0 ≡ length (filter (is_of c) ys)) → 0 ≡ length ys
 no_versions [] h = refl
 no_versions (y ∷ ys) h = absurd (let one : 0 ≡ suc (length (filter (is_of y.cell) ys)) = h y.cell ∙ ap (λ b. length (cond b (y ∷ filter (is_of y.cell) ys) (filter (is_of y.cell) ys))) (same-itself y.cell) in omega arith)
 
 -- chains that have as many versions of each cell as a list have as many together
-pub size_grouped : (chains : Cells Chain) (ys : List Version) → IsStrictlySortedBy cell_cmp (cells_of chains) →
+pub size_grouped : (chains : Cells Chain) (ys : List CellVersion) → IsStrictlySortedBy cell_cmp (cells_of chains) →
     ((c : Cell) → length (chain_at chains c).versions ≡ length (filter (is_of c) ys)) → size chains ≡ length ys
 size_grouped [] ys sorted h = no_versions ys h
 size_grouped ((k, chain) ∷ rest) ys sorted h =
@@ -83,13 +83,13 @@ size_grouped ((k, chain) ∷ rest) ys sorted h =
 
 -- ---- the versions of one cell
 
-abbrev pub pair_of_version : Version → ℕ × Option ℤ
+abbrev pub pair_of_version : CellVersion → ℕ × Option ℤ
 pair_of_version v = (v.number, v.value)
 
-abbrev pub own : Cell → List Version → List (ℕ × Option ℤ)
+abbrev pub own : Cell → List CellVersion → List (ℕ × Option ℤ)
 own = versions_at
 
-own_append : (c : Cell) (xs ys : List Version) → own c (xs ++ ys) ≡ own c xs ++ own c ys
+own_append : (c : Cell) (xs ys : List CellVersion) → own c (xs ++ ys) ≡ own c xs ++ own c ys
 own_append c xs ys = ap (map pair_of_version) (filter-append (is_of c) xs ys) ∙ map-append pair_of_version (filter (is_of c) xs) (filter (is_of c) ys)
 
 -- one version at most, as each cell stands once
@@ -128,7 +128,7 @@ own_of_history opening ws c ordered each =
 abbrev pub stays : List (ℕ × Option ℤ) → ℕ → ℕ × Option ℤ → Bool
 stays vs f v = nat_lt f v.0 || (not (list_any (λ (u : ℕ × Option ℤ). nat_lt v.0 u.0 && nat_le u.0 f) vs) && is_some v.1)
 
-newer_own : (c x : Cell) (n f : ℕ) (vs : List Version) → c ≡ x →
+newer_own : (c x : Cell) (n f : ℕ) (vs : List CellVersion) → c ≡ x →
     list_any (λ u. is_same_cell u.cell x && (nat_lt n u.number && nat_le u.number f)) vs ≡ list_any (λ (u : ℕ × Option ℤ). nat_lt n u.0 && nat_le u.0 f) (own c vs)
 newer_own c x n f [] same = refl
 newer_own c x n f (v ∷ vs) same = turn ∙ go (is_same_cell c v.cell) (newer_own c x n f vs same)
@@ -147,12 +147,12 @@ newer_own c x n f (v ∷ vs) same = turn ∙ go (is_same_cell c v.cell) (newer_o
     go true rest = ap (λ b. newer || b) rest
     go false rest = rest
 
-retained_own : (c : Cell) (f : ℕ) (vs : List Version) (v : Version) → is_of c v ≡ true → is_retained vs f v ≡ stays (own c vs) f (pair_of_version v)
+retained_own : (c : Cell) (f : ℕ) (vs : List CellVersion) (v : CellVersion) → is_of c v ≡ true → is_retained vs f v ≡ stays (own c vs) f (pair_of_version v)
 retained_own c f vs v same = ap (λ b. nat_lt f v.number || (not b && is_some v.value)) (newer_own c v.cell v.number f vs (cell_is c v.cell same))
 
 -- two filters in turn, where the second test is one on the pairs
-filter_own : (c : Cell) (p : Version → Bool) (q : ℕ × Option ℤ → Bool) → ((v : Version) → is_of c v ≡ true → p v ≡ q (pair_of_version v)) →
-    (xs : List Version) → own c (filter p xs) ≡ filter q (own c xs)
+filter_own : (c : Cell) (p : CellVersion → Bool) (q : ℕ × Option ℤ → Bool) → ((v : CellVersion) → is_of c v ≡ true → p v ≡ q (pair_of_version v)) →
+    (xs : List CellVersion) → own c (filter p xs) ≡ filter q (own c xs)
 filter_own c p q same [] = refl
 filter_own c p q same (v ∷ xs) = go (p v) (is_of c v) refl refl (filter_own c p q same xs)
   where
@@ -263,7 +263,7 @@ size_retained chains opening ws f ordered each sorted is =
 
 -- ---- at the beginning
 
-none_newer_row : (v : Version) (rows : TableState) → list_any (λ u. is_same_cell u.cell v.cell && (nat_lt v.number u.number && nat_le u.number 0)) (map of_row rows ++ []) ≡ false
+none_newer_row : (v : CellVersion) (rows : TableState) → list_any (λ u. is_same_cell u.cell v.cell && (nat_lt v.number u.number && nat_le u.number 0)) (map of_row rows ++ []) ≡ false
 none_newer_row v [] = refl
 none_newer_row v (e ∷ es) = go (is_same_cell e.0 v.cell) (none_newer_row v es)
   where
@@ -276,7 +276,7 @@ none_newer_row v (e ∷ es) = go (is_same_cell e.0 v.cell) (none_newer_row v es)
         and_nothing true rest = rest
         and_nothing false rest = rest
 
-rows_pass : (p : Version → Bool) → ((e : Cell × ℤ) → p (of_row e) ≡ true) → (rows : TableState) → length (filter p (map of_row rows ++ [])) ≡ length rows
+rows_pass : (p : CellVersion → Bool) → ((e : Cell × ℤ) → p (of_row e) ≡ true) → (rows : TableState) → length (filter p (map of_row rows ++ [])) ≡ length rows
 rows_pass p passes [] = refl
 rows_pass p passes (e ∷ es) = ap (λ b. length (cond b (of_row e ∷ filter p (map of_row es ++ [])) (filter p (map of_row es ++ [])))) (passes e) ∙ ap suc (rows_pass p passes es)
 
@@ -288,7 +288,7 @@ retained-open opening =
 
 -- ---- one more commit
 
-none_newer_made : (n f : ℕ) (v : Version) (cells : Cells (Option ℤ)) → f < n → list_any (λ u. is_same_cell u.cell v.cell && (nat_lt v.number u.number && nat_le u.number f)) (map (made_by n) cells) ≡ false
+none_newer_made : (n f : ℕ) (v : CellVersion) (cells : Cells (Option ℤ)) → f < n → list_any (λ u. is_same_cell u.cell v.cell && (nat_lt v.number u.number && nat_le u.number f)) (map (made_by n) cells) ≡ false
 none_newer_made n f v [] high = refl
 none_newer_made n f v (e ∷ es) high =
     ap (λ t. (is_same_cell e.0 v.cell && (nat_lt v.number n && t)) || list_any (λ u. is_same_cell u.cell v.cell && (nat_lt v.number u.number && nat_le u.number f)) (map (made_by n) es)) (lt-leb n f high)
@@ -300,7 +300,7 @@ none_newer_made n f v (e ∷ es) high =
     go true false rest = rest
     go false b rest = rest
 
-all_made_pass : (p : Version → Bool) (n : ℕ) → ((e : Cell × Option ℤ) → p (made_by n e) ≡ true) → (cells : Cells (Option ℤ)) → length (filter p (map (made_by n) cells)) ≡ length cells
+all_made_pass : (p : CellVersion → Bool) (n : ℕ) → ((e : Cell × Option ℤ) → p (made_by n e) ≡ true) → (cells : Cells (Option ℤ)) → length (filter p (map (made_by n) cells)) ≡ length cells
 all_made_pass p n passes [] = refl
 all_made_pass p n passes (e ∷ es) = ap (λ b. length (cond b (made_by n e ∷ filter p (map (made_by n) es)) (filter p (map (made_by n) es)))) (passes e) ∙ ap suc (all_made_pass p n passes es)
 
@@ -320,16 +320,16 @@ retained-push opening ws w f low =
     ∙ length-append (filter (is_retained vs f) vs) (filter (is_retained (vs ++ new) f) new)
     ∙ ap (λ n. length (filter (is_retained vs f) vs) + n) (all_made_pass (is_retained (vs ++ new) f) (1 + length ws) passes w.cells)
   where
-    vs : List Version
+    vs : List CellVersion
     vs = versions_of opening ws
 
-    new : List Version
+    new : List CellVersion
     new = map (made_by (1 + length ws)) w.cells
 
     all : versions_of opening (ws ++ w ∷ []) ≡ vs ++ new
     all = ap (λ xs. map of_row opening ++ xs) (versions_from-push 1 ws w) ∙ sym (append_assoc (map of_row opening) (versions_from 1 ws) new)
 
-    same : (v : Version) → is_retained (vs ++ new) f v ≡ is_retained vs f v
+    same : (v : CellVersion) → is_retained (vs ++ new) f v ≡ is_retained vs f v
     same v =
         ap (λ b. nat_lt f v.number || (not b && is_some v.value))
         (list_any-append (λ u. is_same_cell u.cell v.cell && (nat_lt v.number u.number && nat_le u.number f)) vs new

@@ -6,7 +6,7 @@ use Rattle.std.proofs.Math.Numerals.{one-add}
 use Rattle.std.proofs.lemmas.Bool.{le-leb, lt-leb}
 use Rattle.std.proofs.lemmas.Bool.Decides.{nat_tests}
 use Rattle.std.proofs.lemmas.List.Filters.{length-filter_both}
-use Rattle.version_store.specs.Reading.{number_of, RisesFrom, value_after, value_at, version_numbers, last_number_or, last_number, IsBelow}
+use Rattle.version_store.specs.Reading.{version_number, RisesFrom, value_after, value_at, version_numbers, last_number_or, last_number, IsBelow}
 use Rattle.version_store.specs.StandsFor.{Chain, trimmed}
 use Rattle.version_store.proofs.RisingLaws.{rises_more}
 use Rattle.version_store.specs.Trimming.{shown, versions_kept, marks_kept}
@@ -138,7 +138,7 @@ last_trimmed f n less chain =
 -- ---- versions that rise
 
 rises_shown : (k : ℕ) (o : Option ℤ) (vs : List (ℕ × Option ℤ)) → RisesFrom (k + 1) vs → RisesFrom 0 (shown k o ++ vs)
-rises_shown k None vs h = rises_more number_of 0 (k + 1) vs (omega arith) h
+rises_shown k None vs h = rises_more version_number 0 (k + 1) vs (omega arith) h
 rises_shown k (Some x) vs h = (omega arith, h)
 
 rises_kept : (f k : ℕ) (o : Option ℤ) (vs : List (ℕ × Option ℤ)) → RisesFrom (k + 1) vs → RisesFrom 0 (versions_kept f (shown k o) vs)

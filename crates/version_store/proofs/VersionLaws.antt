@@ -8,10 +8,10 @@ use Rattle.prog_tree.specs.Table.{TableState, row_at, is_cell_among}
 use Rattle.prog_tree.proofs.ChangedLemmas.{row_at-changed}
 use Rattle.version_store.specs.Clash.{last_touch}
 use Rattle.version_store.specs.Commits.{state_at}
-use Rattle.version_store.specs.Reading.{number_of, RisesFrom, value_after, value_at, version_numbers, last_number_or, last_number, with_commit, with_mark_by, with_change_by, IsBelow}
+use Rattle.version_store.specs.Reading.{version_number, RisesFrom, value_after, value_at, version_numbers, last_number_or, last_number, with_commit, with_mark_by, with_change_by, IsBelow}
 use Rattle.version_store.specs.Trimming.{shown}
 use Rattle.version_store.specs.StandsFor.{version_by, changes_of, marks_of, chain_of}
-use Rattle.version_store.specs.Versions.{Version}
+use Rattle.version_store.specs.Versions.{CellVersion}
 use Rattle.version_store.proofs.RisingLaws.{rises_more}
 
 abbrev state_from : TableState → List ChangeSet → TableState
@@ -57,14 +57,14 @@ changes_rise c k [] = tt
 changes_rise c k (w ∷ ws) = go (change_at w c) (changes_rise c (k + 1) ws)
   where
     go : (o : Option (Option ℤ)) → RisesFrom (k + 1) (changes_of c (k + 1) ws) → RisesFrom k (version_by k o ++ changes_of c (k + 1) ws)
-    go None rest = rises_more number_of k (k + 1) (changes_of c (k + 1) ws) (omega arith) rest
+    go None rest = rises_more version_number k (k + 1) (changes_of c (k + 1) ws) (omega arith) rest
     go (Some x) rest = (omega arith, rest)
 
 pub chain_rises : (opening : TableState) (ws : List ChangeSet) (c : Cell) → RisesFrom 0 (chain_of opening ws c).versions
 chain_rises opening ws c = go (row_at opening c)
   where
     go : (o : Option ℤ) → RisesFrom 0 (shown 0 o ++ changes_of c 1 ws)
-    go None = rises_more number_of 0 1 (changes_of c 1 ws) (omega arith) (changes_rise c 1 ws)
+    go None = rises_more version_number 0 1 (changes_of c 1 ws) (omega arith) (changes_rise c 1 ws)
     go (Some v) = (omega arith, changes_rise c 1 ws)
 
 -- ---- the last number
@@ -193,8 +193,8 @@ chain_below opening ws c i = record { versions = go (row_at opening c) i; marks 
 
 -- ---- the versions of commits and of rows
 
-abbrev pub made_by : ℕ → Cell × Option ℤ → Version
+abbrev pub made_by : ℕ → Cell × Option ℤ → CellVersion
 made_by n e = record { cell = e.0; number = n; value = e.1 }
 
-abbrev pub of_row : Cell × ℤ → Version
+abbrev pub of_row : Cell × ℤ → CellVersion
 of_row row = record { cell = row.0; number = 0; value = Some row.1 }

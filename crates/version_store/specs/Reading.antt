@@ -20,12 +20,12 @@ abbrev pub IsNumberCut : {A : Type 0} → (A → ℕ) → (n : ℕ) → List A �
 IsNumberCut number n xs count = IsPartitionPoint (λ x. leb (number x) n ≡ true) (λ x. leb (number x) n ≡ false) xs count
 
 -- the number of a version
-abbrev pub number_of : ℕ × Option ℤ → ℕ
-number_of v = v.0
+abbrev pub version_number : ℕ × Option ℤ → ℕ
+version_number v = v.0
 
 -- the numbers of versions rise, and the first is at least n
 abbrev pub RisesFrom : ℕ → List (ℕ × Option ℤ) → Type 0
-RisesFrom n vs = RisesBy number_of n vs
+RisesFrom n vs = RisesBy version_number n vs
 
 -- the versions of each cell rise
 abbrev pub AllRise : Cells Chain → Type 0
@@ -33,7 +33,7 @@ AllRise chains = (c : Cell) → RisesFrom 0 (chain_at chains c).versions
 
 -- the first `count` versions are at most n, and the others above
 abbrev pub IsCutAt : (n : ℕ) → List (ℕ × Option ℤ) → (count : ℕ) → Type 0
-IsCutAt n vs count = IsNumberCut number_of n vs count
+IsCutAt n vs count = IsNumberCut version_number n vs count
 
 -- what a cell holds after the versions that are at most n, where it held something before them
 abbrev pub value_after : ℕ → Option ℤ → List (ℕ × Option ℤ) → Option ℤ

@@ -10,7 +10,7 @@ use prog_tree::{Cell, Region, RisingCells, Rows, Sequence};
 use std::alloc::AllocError;
 
 // For how many rows a scan makes room at most before it has found one.
-const MOST_FIRST_ROOM: usize = 1024;
+const MOST_FIRST_ROWS: usize = 1024;
 
 // How many numbers there are from one to another, as far as a usize can tell.
 fn count_between(low: i64, high: i64) -> usize {
@@ -24,7 +24,7 @@ fn count_between(low: i64, high: i64) -> usize {
 fn first_room(region: &Region) -> usize {
     let firsts = count_between(region.first_low, region.first_high);
     let seconds = count_between(region.second_low, region.second_high);
-    firsts.saturating_mul(seconds).min(MOST_FIRST_ROOM)
+    firsts.saturating_mul(seconds).min(MOST_FIRST_ROWS)
 }
 
 impl Chains {

@@ -14,7 +14,7 @@ use std::marker::Model;
 
 /// How many commits an active instance sees, and its number.
 #[derive(Clone, Copy, Debug, PartialEq, Eq, PartialOrd, Ord)]
-pub struct Beginning {
+pub struct InstanceStart {
     pub start: u64,
     pub number: u64,
 }
@@ -23,19 +23,19 @@ pub struct Beginning {
 #[derive(Debug, Drop)]
 pub struct ActiveSet {
     by_number: BTreeMap<u64, Active>,
-    by_start: BTreeSet<Beginning>,
+    by_start: BTreeSet<InstanceStart>,
 }
 
 impl Model for ActiveSet {
     ghost use Rattle.std.specs.Prelude.{ℕ, List};
-    ghost use Rattle.history_book.specs.ActiveSet.{AreBeginnings};
+    ghost use Rattle.history_book.specs.ActiveSet.{AreStarts};
     ghost use Rattle.history_book.specs.History.{Instance};
 
     ghost Value = { List (ℕ × Instance) };
 
     ghost view = { λ s. s.by_number.entries };
 
-    ghost invariant = { λ s. AreBeginnings s.by_number.entries s.by_start };
+    ghost invariant = { λ s. AreStarts s.by_number.entries s.by_start };
 }
 
 impl ActiveSet {
@@ -69,7 +69,7 @@ impl ActiveSet {
         ensures err { OnErr result (self.new ≡ self.old) }
         ensures ordered { IsStrictlySortedBy nat_cmp (keys_of self.new) }
     {
-        let beginning = Beginning {
+        let beginning = InstanceStart {
             start: active.start,
             number,
         };
@@ -90,7 +90,7 @@ impl ActiveSet {
     {
         if let Some(active) = self.by_number.remove(&number) {
             let start = active.start;
-            self.by_start.remove(&Beginning { start, number });
+            self.by_start.remove(&InstanceStart { start, number });
         }
     }
 

@@ -16,13 +16,13 @@ pub struct Precedence {
 
 impl Model for Precedence {
     ghost use Rattle.std.specs.Prelude.{List, ℕ};
-    ghost use Rattle.history_book.specs.Precedence.{number_lists, NamesCommits};
+    ghost use Rattle.history_book.specs.Precedence.{number_lists, HasCommitsAlone};
 
     ghost Value = { List (List ℕ) };
 
     ghost view = { λ p. number_lists p.after.items };
 
-    ghost invariant = { λ p. NamesCommits (number_lists p.after.items) };
+    ghost invariant = { λ p. HasCommitsAlone (number_lists p.after.items) };
 }
 
 // Whether the last of some numbers is this one.

@@ -3,7 +3,7 @@ use Rattle.std.specs.BTreeMap.{is_at}
 use Rattle.std.specs.Map.{lookup}
 use Rattle.std.specs.Ordering.{nat_cmp}
 use Rattle.history_book.proofs.ActiveLaws.{Entry}
-use Rattle.history_book.proofs.BeginningLaws.{taken_back}
+use Rattle.history_book.proofs.StartLaws.{taken_back}
 use Rattle.history_book.proofs.instances.active_set.ActiveSet.insert.Goals as goal
 
 pub invariant_of-self-in-Err : goal.invariant_of-self-in-Err

@@ -1,7 +1,7 @@
 use Rattle.std.proofs.Common.{◌≡◌, List, sym, subst, ◌∙◌, true≢false}
 use Rattle.history_book.specs.View.{least_start}
 use Rattle.history_book.proofs.ActiveLaws.{Entry}
-use Rattle.history_book.proofs.BeginningLaws.{least_of_first, least_of_none}
+use Rattle.history_book.proofs.StartLaws.{least_of_first, least_of_none}
 use Rattle.history_book.proofs.instances.active_set.ActiveSet.least_start.Goals as goal
 
 pub returns-in-Some : goal.returns-in-Some

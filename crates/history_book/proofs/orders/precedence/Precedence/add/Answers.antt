@@ -1,19 +1,19 @@
 use Rattle.std.proofs.Common.{◌-◌, ◌≡◌, ◌≤◌, ℕ, List, true, length, subst, ap, ◌∙◌, sym}
 use Rattle.std.proofs.lemmas.Result.{err_from_is_err_and}
 use Rattle.history_book.specs.Orders.{is_one_of}
-use Rattle.history_book.specs.Precedence.{behind, precedes, NamesCommits}
+use Rattle.history_book.specs.Precedence.{behind, precedes, HasCommitsAlone}
 use Rattle.history_book.proofs.NumberLists.{one-get}
 use Rattle.history_book.proofs.PrecedenceLaws.{behind-items, kept, added, within-kept, within-added, told-twice}
 use Rattle.history_book.proofs.orders.precedence.Precedence.add.Goals as goal
 
 pub invariant_of-self : goal.invariant_of-self
 invariant_of-self c =
-    let within = subst (λ (w : List (List ℕ)). NamesCommits w) c.self.view_is c.self.invariant in
+    let within = subst (λ (w : List (List ℕ)). HasCommitsAlone w) c.self.view_is c.self.invariant in
     within-added c.self.inside.after.items c.args.self.now c.self.view_is c.args.first c.args.second c.requires.first c.requires.first_within c.index_mut.result.now c.push.new.self c.index_mut.ensures.value c.in_ok-push.ensures.items c.requires.second c.requires.second_within within
 
 pub invariant_of-self-in_err-push : goal.invariant_of-self-in_err-push
 invariant_of-self-in_err-push c =
-    let within = subst (λ (w : List (List ℕ)). NamesCommits w) c.self.view_is c.self.invariant in
+    let within = subst (λ (w : List (List ℕ)). HasCommitsAlone w) c.self.view_is c.self.invariant in
     within-kept c.self.inside.after.items c.args.self.now c.self.view_is c.args.first c.args.second c.requires.first c.requires.first_within c.index_mut.result.now c.push.new.self c.index_mut.ensures.value c.in_err-push.ensures.items within
 
 pub returns-in_err-push-clause-err : goal.returns-in_err-push-clause-err

@@ -1,6 +1,6 @@
 use Rattle.std.proofs.Common.{◌≤◌, List, ℕ, length, sym, ap, ◌∙◌, subst}
 use Rattle.history_book.specs.Orders.{is_one_of}
-use Rattle.history_book.specs.Precedence.{behind, NamesCommits}
+use Rattle.history_book.specs.Precedence.{behind, HasCommitsAlone}
 use Rattle.history_book.proofs.PrecedenceLaws.{behind-items}
 use Rattle.history_book.proofs.orders.precedence.Precedence.behind.Goals as goal
 
@@ -13,5 +13,5 @@ returns-clause-numbers c =
 
 pub returns-clause-known : goal.returns-clause-known
 returns-clause-known c = λ j h.
-    let within = subst (λ (w : List (List ℕ)). NamesCommits w) c.self.view_is c.self.invariant in
+    let within = subst (λ (w : List (List ℕ)). HasCommitsAlone w) c.self.view_is c.self.invariant in
     within c.args.commit j (ap (λ (w : List ℕ). is_one_of w j) (sym (returns-clause-numbers c)) ∙ h)
