@@ -196,7 +196,7 @@ impl Chains {
     }
 
     /// The cells stand in their order.
-    pub fn in_order(&self)
+    pub fn read_order(&self)
         ensures { IsStrictlySortedBy cell_cmp (cells_of self.now) }
     {
         let _ = self.chains.iter();

@@ -173,9 +173,9 @@ impl Store {
         ensures commits { self.new.commits ≡ self.old.commits }
         ensures stands { KeepsHistories self.old self.new }
     {
-        self.chains.in_order();
+        self.chains.read_order();
         let count = self.chains.vacuum(&mut self.pending, floor);
-        self.chains.in_order();
+        self.chains.read_order();
         self.floor = floor;
         self.versions = self.versions.saturating_sub(count);
         count

@@ -76,7 +76,7 @@ impl<'a> Book<'a> {
     }
 
     // An active instance sees commits from the floor on.
-    fn know_start(&self, ticket: &Ticket)
+    fn read_start(&self, ticket: &Ticket)
         requires { IsSome (active_at self.now ticket.now) }
         ensures above { self.now.floor ≤ ticket.now.start }
         ensures within { ticket.now.start ≤ length self.now.rows }
@@ -93,7 +93,7 @@ impl<'a> Book<'a> {
         ensures own { StaysOwn (state_in self.now ticket.now.start) run.old run.new }
         ensures err { OnErr result (StopsShort run.old run.new) }
     {
-        self.know_start(ticket);
+        self.read_start(ticket);
         self.advance_at(ticket.start(), run)
     }
 

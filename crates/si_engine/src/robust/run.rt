@@ -70,7 +70,7 @@ fn apply_events<W: Witness>(
 }
 
 // The history of a book is lawful, its set sound and its rows of i64, as their types say.
-fn know_history(book: &Book<'_>)
+fn read_history(book: &Book<'_>)
     ensures { IsHistory (draft_tree book.now.set) book.now.opening (history_of book.now.rows) }
 {
     book.commits();
@@ -85,7 +85,7 @@ pub fn order_of(book: &Book<'_>) -> Result<Vec<usize>, AllocError>
         least_order (depends_in book.now) (length book.now.rows) ≡ Some order.items) }
     ensures fits { IfOk result (λ order. FitsBook book.now order.items) }
 {
-    know_history(book);
+    read_history(book);
     match book.serial_order() {
         Ok(order) => Ok(order),
         Err(OrderFault::Memory) => Err(AllocError),

@@ -28,7 +28,7 @@ returns c =
     let done = c.vacuum-count.ensures in
     let both : (opening : TableState) (ws : List ChangeSet) → StandsFor s opening ws →
     StandsFor t opening ws × (c.vacuum-count.result ≡ reclaimed opening ws c.self.inside.floor c.args.floor) = λ opening ws stands.
-    stands-vacuum s t opening ws c.args.floor c.vacuum-count.result stands rises low c.in_order.ensures c.in_order-2.ensures done.chains done.hold done.pending refl refl done.falls fits
+    stands-vacuum s t opening ws c.args.floor c.vacuum-count.result stands rises low c.read_order.ensures c.read_order-2.ensures done.chains done.hold done.pending refl refl done.falls fits
     done.count c.saturating_sub-self-inside.ensures in
     rw (← c.self.view_is) (record {
       count = λ opening ws stands. (both opening ws stands).1;

@@ -1,5 +1,5 @@
 use Rattle.history_book.proofs.BookLaws.{start_known}
-use Rattle.history_book.proofs.book.Book.know_start.Goals as goal
+use Rattle.history_book.proofs.book.Book.read_start.Goals as goal
 
 pub returns-clause-above : goal.returns-clause-above
 returns-clause-above c = (start_known c.args.self.now c.args.ticket.now c.commits.ensures.true_book c.requires).0
