@@ -17,7 +17,7 @@ use Rattle.prog_tree.specs.declared.stmt.Stmt as t
 use Rattle.prog_tree.specs.Tree.{stmt_tree, block_tree}
 use Rattle.prog_tree.proofs.TreeLemmas.{fork_tree}
 use Rattle.prog_paths.specs.declared.path.trail.Trail.{Trail}
-use Rattle.prog_paths.specs.Trails.{alone, commits, unknown_behind, trail_of, choosing_first, along, all_along, IsLow, AreLow}
+use Rattle.prog_paths.specs.Trails.{alone, commits, unknown_behind, trail_of, with_choice, along, all_along, IsLow, AreLow}
 
 -- ---- statements and blocks
 
@@ -179,15 +179,15 @@ module _ (tables : List TableDecl) (params : List Name) where
       (λ i. h i ++ (e ∙ sym (all_one t (routes n (alone x)))) i)
       ∙ sym (all_append before (t ∷ []) (routes n (alone x)))
 
-  choosing_is : (w : Bool) (t : Trail) (r : Route) → along tables params (choosing_first w t) r ≡ along tables params t (choosing w r)
+  choosing_is : (w : Bool) (t : Trail) (r : Route) → along tables params (with_choice w t) r ≡ along tables params t (choosing w r)
   choosing_is w t r = λ i. trail_of (append_assoc t.choices (w ∷ []) r.choices i) (t.accesses ++ accesses_along tables params t.unknown r.passed) (unknown_behind params t.unknown r.passed)
 
-  side_of : (w : Bool) (t : Trail) (rs : List Route) → map (along tables params t) (map (choosing w) rs) ≡ map (along tables params (choosing_first w t)) rs
-  side_of w t rs = map_map (choosing w) (along tables params t) (along tables params (choosing_first w t)) (λ r. sym (choosing_is w t r)) rs
+  side_of : (w : Bool) (t : Trail) (rs : List Route) → map (along tables params t) (map (choosing w) rs) ≡ map (along tables params (with_choice w t)) rs
+  side_of w t rs = map_map (choosing w) (along tables params t) (along tables params (with_choice w t)) (λ r. sym (choosing_is w t r)) rs
 
   -- one trail through a branch
   pub through_branch : (n : ℕ) (x : StmtTree) (test : TestTree) (a b : BlockTree) (t : Trail) → x ≡ Fork test a b →
-      map (along tables params (choosing_first true t)) (routes (n + 1) a) ++ map (along tables params (choosing_first false t)) (routes (n + 1 + statement_count a) b) ≡ map (along tables params t) (routes n (alone x))
+      map (along tables params (with_choice true t)) (routes (n + 1) a) ++ map (along tables params (with_choice false t)) (routes (n + 1 + statement_count a) b) ≡ map (along tables params t) (routes n (alone x))
   through_branch n x test a b t is =
       let first = routes (n + 1) a in
       let second = routes (n + 1 + statement_count a) b in
@@ -198,9 +198,9 @@ module _ (tables : List TableDecl) (params : List Name) where
 
   -- and one more trail
   pub more_trails : (n : ℕ) (x : StmtTree) (test : TestTree) (a b : BlockTree) (before : List Trail) (t : Trail) (out : List Trail) → x ≡ Fork test a b → out ≡ all_along tables params before (routes n (alone x)) →
-      (out ++ map (along tables params (choosing_first true t)) (routes (n + 1) a)) ++ map (along tables params (choosing_first false t)) (routes (n + 1 + statement_count a) b) ≡ all_along tables params (before ++ t ∷ []) (routes n (alone x))
+      (out ++ map (along tables params (with_choice true t)) (routes (n + 1) a)) ++ map (along tables params (with_choice false t)) (routes (n + 1 + statement_count a) b) ≡ all_along tables params (before ++ t ∷ []) (routes n (alone x))
   more_trails n x test a b before t out is h =
-      append_assoc out (map (along tables params (choosing_first true t)) (routes (n + 1) a)) (map (along tables params (choosing_first false t)) (routes (n + 1 + statement_count a) b))
+      append_assoc out (map (along tables params (with_choice true t)) (routes (n + 1) a)) (map (along tables params (with_choice false t)) (routes (n + 1 + statement_count a) b))
       ∙ (λ i. h i ++ (through_branch n x test a b t is ∙ sym (all_one t (routes n (alone x)))) i)
       ∙ sym (all_append before (t ∷ []) (routes n (alone x)))
 
@@ -343,8 +343,8 @@ low_front n x later all is h = (subst (AreLow n) is h).0
 pub low_back : (n : ℕ) (x : Trail) (later all : List Trail) → all ≡ x ∷ later → AreLow n all → AreLow n later
 low_back n x later all is h = (subst (AreLow n) is h).1
 
-pub low_first : (n : ℕ) (w : Bool) (t on : Trail) → on ≡ choosing_first w t → IsLow n t → IsLow (n + 1) on
+pub low_first : (n : ℕ) (w : Bool) (t on : Trail) → on ≡ with_choice w t → IsLow n t → IsLow (n + 1) on
 low_first n w t on is h = let e = ap (λ (u : Trail). u.unknown) is in omega (arith, h, e)
 
-pub low_second : (n m : ℕ) (w : Bool) (t on : Trail) → on ≡ choosing_first w t → IsLow n t → IsLow (n + 1 + m) on
+pub low_second : (n m : ℕ) (w : Bool) (t on : Trail) → on ≡ with_choice w t → IsLow n t → IsLow (n + 1 + m) on
 low_second n m w t on is h = let e = ap (λ (u : Trail). u.unknown) is in omega (arith, h, e)

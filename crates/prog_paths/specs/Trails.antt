@@ -73,8 +73,8 @@ past_body tables params number body t =
     (unknown_behind params t.unknown (body_passed number body))
 
 -- a trail that takes a branch's first block, or its second
-abbrev pub choosing_first : Bool → Trail → Trail
-choosing_first first t = trail_of (t.choices ++ first ∷ []) t.accesses t.unknown
+abbrev pub with_choice : Bool → Trail → Trail
+with_choice first t = trail_of (t.choices ++ first ∷ []) t.accesses t.unknown
 
 -- a trail that goes on along a route
 abbrev pub along : List TableDecl → (params : List Name) → Trail → Route → Trail

@@ -1,5 +1,5 @@
 //! The columns of a statement, as far as the text tells them.
-ghost use Rattle.std.specs.Prelude.{◌≡◌, ◌+◌, ◌<◌, ◌^◌, IfSome, Some, if◌then◌else◌};
+ghost use Rattle.std.specs.Prelude.{◌≡◌, ◌+◌, ◌<◌, IfSome, Some, if◌then◌else◌};
 ghost use Rattle.std.specs.Option.{option_map};
 ghost use Rattle.prog_tree.specs.Tree.{expr_tree, key_tree, range_tree, stmt_tree};
 ghost use Rattle.prog_check.specs.Accesses.{is_unknown, single, term_of, key_columns, range_columns};
@@ -43,7 +43,7 @@ fn term(params: &[Name], unknown: usize, expr: &Expr) -> Term
 }
 
 fn next_behind(unknown: usize, term: Term) -> usize
-    requires { unknown < 2 ^ 32 }
+    requires { unknown < MAX_UNKNOWNS + 2 }
     ensures { result ≡ (if is_unknown term then unknown + 1 else unknown) }
 {
     match term {

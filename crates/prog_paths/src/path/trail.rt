@@ -2,7 +2,7 @@
 ghost use Rattle.std.specs.Prelude.{◌≡◌, ◌<◌, ◌++◌, map, IfOk, OnOk};
 ghost use Rattle.prog_tree.specs.Tree.{stmt_tree};
 ghost use Rattle.prog_paths.specs.Kinds.{items_of, access_with};
-ghost use Rattle.prog_paths.specs.Trails.{past, choosing_first};
+ghost use Rattle.prog_paths.specs.Trails.{past, with_choice};
 
 use crate::limits::MAX_UNKNOWNS;
 use crate::path::columns::{Columns, columns_of};
@@ -31,8 +31,8 @@ impl Trail {
     }
 
     /// The trail that takes the first block of a branch, or the second.
-    pub fn taking(self, first: bool) -> Result<Trail, AllocError>
-        ensures { IfOk result (λ trail. trail ≡ choosing_first first self) }
+    pub fn with_choice(self, first: bool) -> Result<Trail, AllocError>
+        ensures { IfOk result (λ trail. trail ≡ with_choice first self) }
     {
         let mut trail = self;
         trail.choices.push(first)?;
@@ -40,11 +40,11 @@ impl Trail {
     }
 
     /// A copy that does.
-    pub fn choosing(&self, alloc: Global, first: bool) -> Result<Trail, AllocError>
-        ensures { IfOk result (λ trail. trail ≡ choosing_first first self.now) }
+    pub fn copied_with_choice(&self, alloc: Global, first: bool) -> Result<Trail, AllocError>
+        ensures { IfOk result (λ trail. trail ≡ with_choice first self.now) }
     {
         let copy = self.copied(alloc)?;
-        let trail = copy.taking(first)?;
+        let trail = copy.with_choice(first)?;
         Ok(trail)
     }
 }

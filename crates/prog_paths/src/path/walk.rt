@@ -197,10 +197,10 @@ fn walk_stmt(
             let second = number + 1 + count_statements(then);
             let mut passed = Vec::new(alloc);
             for trail in trails {
-                let on = trail.choosing(alloc, true)?;
+                let on = trail.copied_with_choice(alloc, true)?;
                 let mut ways = walk_block(alloc, set, params, number + 1, then, on)?;
                 passed.append(&mut ways)?;
-                let on = trail.taking(false)?;
+                let on = trail.with_choice(false)?;
                 let mut ways = walk_block(alloc, set, params, second, otherwise, on)?;
                 passed.append(&mut ways)?;
             }
