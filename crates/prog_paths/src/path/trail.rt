@@ -44,8 +44,7 @@ impl Trail {
         ensures { IfOk result (λ trail. trail ≡ with_choice first self.now) }
     {
         let copy = self.copied(alloc)?;
-        let trail = copy.with_choice(first)?;
-        Ok(trail)
+        copy.with_choice(first)
     }
 }
 

@@ -81,8 +81,7 @@ fn is_exposed(
     if !may_miss(first, second) {
         return Ok(false);
     }
-    let exposed = exposed_between(alloc, paths, first, second)?;
-    Ok(exposed)
+    exposed_between(alloc, paths, first, second)
 }
 
 /// The questions of an access that is exposed to some of others.
