@@ -3,7 +3,7 @@ use Rattle.std.specs.Prelude.{ℕ, ◌≡◌, ◌-◌, ◌+◌, ◌⊎◌, Bool,
 use Rattle.std.specs.Fmt.{decimal}
 use Rattle.std.specs.List.{range_with_len}
 use Rattle.prog_check.specs.declared.path.Path.{Path}
-use Rattle.prog_paths.specs.Asked.{questions_of}
+use Rattle.prog_paths.specs.Questions.{questions_of}
 use Rattle.prog_paths.specs.Limits.{most_questions}
 use Rattle.robust_cert.specs.declared.certificate.Certificate.{Certificate}
 use Rattle.robust_cert.specs.declared.entries.Reason.{Reason}

@@ -1,7 +1,7 @@
 //! What a repair puts into a set, in words.
 ghost use Rattle.std.specs.Prelude.{◌≡◌, [], All, IfNone, IfOk, IfSome, string_bytes};
 ghost use Rattle.prog_tree.specs.Tree.{draft_tree};
-ghost use Rattle.prog_paths.specs.Asked.{ChangesSingleCells};
+ghost use Rattle.prog_paths.specs.Questions.{ChangesSingleCells};
 ghost use Rattle.analysis_words.specs.Repairs.{TellsPair, TellsRepair};
 
 use crate::looks::{first_of_each, look_words, looked_at, reason_words};

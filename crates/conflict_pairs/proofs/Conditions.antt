@@ -4,8 +4,8 @@ use Rattle.std.specs.Prelude.{Some, slice_get}
 use Rattle.std.proofs.lemmas.Option.{slice_get_within, slice_get-get_or, get_or_from_slice_get}
 use Rattle.prog_check.specs.declared.path.Access.{Access}
 use Rattle.prog_check.specs.declared.path.Path.{Path}
-use Rattle.prog_paths.specs.Asked.{IsQuestion, two, between, asks}
-use Rattle.prog_paths.proofs.Asked.{placed}
+use Rattle.prog_paths.specs.Questions.{IsQuestion, two, between, asks}
+use Rattle.prog_paths.proofs.Questions.{placed}
 use Rattle.conflict_pairs.proofs.Meaning.{access-first, access-second}
 use Rattle.prog_paths.proofs.Membership.{Asks-from_asks, asks-from_Asks}
 

@@ -8,7 +8,7 @@ use Rattle.order_facts.specs.declared.steps.Node.{Node}
 use Rattle.order_facts.specs.declared.steps.Fact.{Fact}
 use Rattle.order_facts.specs.Chain.{IsChain, RunsBetween}
 use Rattle.prog_check.specs.declared.path.Term.{Term}
-use Rattle.prog_paths.specs.Questions.{mine_node, their_node}
+use Rattle.prog_paths.specs.Facts.{mine_node, their_node}
 use Rattle.prog_check.specs.declared.path.Access.{Access}
 use Rattle.prog_paths.specs.Shown.{Runs, ShowEqual}
 use Rattle.prog_paths.specs.Shown.{CoversBy}

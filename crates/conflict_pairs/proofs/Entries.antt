@@ -3,11 +3,11 @@ use Rattle.std.proofs.Common.{◌≡◌, ℕ, ◌<◌, ◌≤◌, ◌+◌, true,
 use Rattle.std.proofs.lemmas.List.{drop_more, drop_all, append-nil}
 use Rattle.prog_paths.specs.declared.accesses.places.Placed.{Placed}
 use Rattle.prog_paths.specs.declared.accesses.places.Question.{Question as Asked}
-use Rattle.prog_paths.specs.Asked.{asks, question_between, asked_by, asked_among}
+use Rattle.prog_paths.specs.Questions.{asks, question_between, asked_by, asked_among}
 use Rattle.prog_paths.specs.Tally.{of_table}
 use Rattle.prog_paths.specs.Changers.{changers_of}
 use Rattle.prog_paths.proofs.Changing.{seconds_ask}
-use Rattle.prog_paths.proofs.Asked.{if_yes, if_no, asked_by-append, asked_among-next}
+use Rattle.prog_paths.proofs.Questions.{if_yes, if_no, asked_by-append, asked_among-next}
 
 -- ---- questions, one more at a time
 

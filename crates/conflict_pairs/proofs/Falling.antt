@@ -11,7 +11,7 @@ use Rattle.order_facts.specs.declared.steps.Node.TheVariants.{Number}
 use Rattle.order_facts.specs.Chain.{IsStep, IsChainFrom, IsChain, RunsBetween, HasContradiction}
 use Rattle.prog_check.specs.declared.path.Column.{Column}
 use Rattle.prog_check.specs.declared.path.Access.{Access}
-use Rattle.prog_paths.specs.Questions.{mine_node, their_node, column_facts, column_or_zero, second_facts, question_facts}
+use Rattle.prog_paths.specs.Facts.{mine_node, their_node, column_facts, column_or_zero, second_facts, question_facts}
 use Rattle.conflict_pairs.specs.Verdicts.{IsFall, HasFall}
 use Rattle.prog_paths.specs.Shown.{Falls}
 use Rattle.conflict_pairs.specs.Search.{FallsBetween, FallsAtOnce, FoundWithin}

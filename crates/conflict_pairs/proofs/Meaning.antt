@@ -11,10 +11,10 @@ use Rattle.prog_check.specs.declared.path.Access.{Access}
 use Rattle.prog_check.specs.declared.path.Path.{Path}
 use Rattle.prog_paths.specs.Meeting.{MeetsUnder, CanMeet, MayTouch}
 use Rattle.prog_paths.specs.StaticGraph.{AsksOf, IsAccessOf, IsCovered}
-use Rattle.prog_paths.specs.Questions.{question_facts}
+use Rattle.prog_paths.specs.Facts.{question_facts}
 use Rattle.prog_paths.specs.Shown.{Falls}
-use Rattle.prog_paths.proofs.Questions.{law_of_meeting, law_of_questions}
-use Rattle.prog_paths.specs.Asked.{IsQuestion, ChangesSingleCells, two, between}
+use Rattle.prog_paths.proofs.Facts.{law_of_meeting, law_of_questions}
+use Rattle.prog_paths.specs.Questions.{IsQuestion, ChangesSingleCells, two, between}
 use Rattle.conflict_pairs.specs.declared.verdicts.Verdict.{Verdict}
 use Rattle.conflict_pairs.specs.declared.verdicts.Verdict.TheVariants.{Apart, Covered, Exposed}
 use Rattle.conflict_pairs.specs.Verdicts.{HasFall, NumbersFall, IsShortest, mine_of, theirs_of, IsCoveredBy, IsExposedBy, IsRightOf, IsRight, IsExposedQuestion, TellsExposed}

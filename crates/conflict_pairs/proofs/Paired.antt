@@ -8,11 +8,11 @@ use Rattle.std.proofs.lemmas.Option.{get_or_from_slice_get, slice_get-get_or, sl
 use Rattle.prog_check.specs.declared.path.Path.{Path}
 use Rattle.prog_paths.specs.declared.accesses.places.Placed.{Placed}
 use Rattle.prog_paths.specs.declared.accesses.places.Question.{Question as Asked}
-use Rattle.prog_paths.specs.Asked.{all_from, question_between, questions_of}
+use Rattle.prog_paths.specs.Questions.{all_from, question_between, questions_of}
 use Rattle.prog_paths.specs.Changers.{changes, changers_of}
 use Rattle.prog_paths.specs.Places.{IsAt}
 use Rattle.prog_paths.specs.Tally.{of_table}
-use Rattle.prog_paths.proofs.Asked.{all_places_stand}
+use Rattle.prog_paths.proofs.Questions.{all_places_stand}
 use Rattle.conflict_pairs.specs.declared.pairing.PlacePair.{PlacePair}
 use Rattle.conflict_pairs.specs.declared.verdicts.Verdict.{Verdict}
 use Rattle.conflict_pairs.specs.Alike.{AreShown, IsAsked, IsLike}

@@ -5,7 +5,7 @@ use Rattle.prog_check.specs.declared.path.Access.{Access}
 use Rattle.prog_check.specs.declared.path.Path.{Path}
 use Rattle.prog_paths.specs.declared.accesses.places.Placed.{Placed}
 use Rattle.prog_paths.specs.declared.accesses.places.Question.{Question as Asked}
-use Rattle.prog_paths.specs.Asked.{asks, question_between, questions_of}
+use Rattle.prog_paths.specs.Questions.{asks, question_between, questions_of}
 use Rattle.prog_paths.specs.Meeting.{MayCover}
 use Rattle.prog_paths.specs.Places.{AreAlike, IsAt}
 use Rattle.prog_paths.specs.StaticGraph.{IsAccessOf}

@@ -6,7 +6,7 @@ use Rattle.prog_check.specs.declared.path.Path.{Path}
 use Rattle.prog_check.specs.declared.path.Term.TheVariants.{Param}
 use Rattle.prog_paths.specs.declared.accesses.places.Placed.{Placed}
 use Rattle.prog_paths.specs.declared.accesses.places.Question.{Question as Asked}
-use Rattle.prog_paths.specs.Asked.{all_from, question_between}
+use Rattle.prog_paths.specs.Questions.{all_from, question_between}
 use Rattle.conflict_pairs.specs.declared.listing.Questions.{Questions}
 use Rattle.conflict_pairs.specs.declared.pairing.PlacePair.{PlacePair}
 use Rattle.conflict_pairs.specs.declared.verdicts.Verdict.{Verdict}

@@ -7,7 +7,7 @@ use Rattle.order_facts.specs.Sample.{sample_number, assignment_of, IsSampled}
 use Rattle.prog_check.specs.declared.path.Kind.{Kind}
 use Rattle.prog_paths.specs.StaticGraph.{Question, AsksReadWrite}
 use Rattle.prog_check.specs.declared.path.Access.{Access}
-use Rattle.prog_paths.specs.Questions.{question_facts}
+use Rattle.prog_paths.specs.Facts.{question_facts}
 use Rattle.conflict_pairs.specs.Verdicts.{IsFall, FallsShortest, IsShortest}
 use Rattle.conflict_pairs.specs.declared.verdicts.Verdict.{Verdict}
 use Rattle.conflict_pairs.specs.declared.verdicts.Verdict.TheVariants.{Apart, Covered, Exposed}

@@ -10,7 +10,7 @@ use Rattle.order_facts.specs.Sample.{sample_number, IsSampled}
 use Rattle.prog_check.specs.declared.path.Access.{Access}
 use Rattle.prog_check.specs.declared.path.Path.{Path}
 use Rattle.prog_paths.specs.Meeting.{Assignment, MeetsUnder, CanMeet}
-use Rattle.prog_paths.specs.Questions.{question_facts}
+use Rattle.prog_paths.specs.Facts.{question_facts}
 use Rattle.prog_paths.specs.StaticGraph.{Question, AsksOf, AsksReadWrite, IsCovered}
 use Rattle.conflict_pairs.specs.declared.verdicts.Verdict.{Verdict}
 use Rattle.conflict_pairs.specs.declared.verdicts.Verdict.TheVariants.{Apart, Covered, Exposed}

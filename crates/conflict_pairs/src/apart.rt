@@ -2,7 +2,7 @@
 ghost use Rattle.std.specs.Prelude.{◌≡◌, ◌⊎◌, ◌↔◌, [], ◌∷◌, ℕ, Some, slice_get, length, IsTrue, All, IfOk, IfSome, IfNone};
 ghost use Rattle.order_facts.specs.declared.steps.Node.{Node};
 ghost use Rattle.order_facts.specs.Chain.{HasContradiction};
-ghost use Rattle.prog_paths.specs.Questions.{column_facts, second_facts, question_facts};
+ghost use Rattle.prog_paths.specs.Facts.{column_facts, second_facts, question_facts};
 ghost use Rattle.conflict_pairs.specs.Verdicts.{IsFall, FallsShortest};
 ghost use Rattle.prog_paths.specs.Shown.{Falls};
 ghost use Rattle.conflict_pairs.specs.Search.{FallsBetween, FallsAtOnce, FoundWithin};

@@ -1,7 +1,7 @@
 //! Tests of what a verdict needs.
 ghost use Rattle.std.specs.Prelude.{◌↔◌, IsTrue};
 ghost use Rattle.prog_paths.specs.Meeting.{MayTouch, IsSingle, IsSingleSecond};
-ghost use Rattle.prog_paths.specs.Asked.{IsQuestion, ChangesSingleCells, two, between};
+ghost use Rattle.prog_paths.specs.Questions.{IsQuestion, ChangesSingleCells, two, between};
 
 use prog_check::{Access, Column, Path};
 use prog_paths::{Placed, asks, may_touch};

@@ -1,9 +1,9 @@
 //! The verdict on a question.
 ghost use Rattle.std.specs.Prelude.{◌≡◌, ◌↔◌, All, IfOk, IfSome, IfNone, IsOk, IsTrue};
 ghost use Rattle.order_facts.specs.Chain.{IsConsistent};
-ghost use Rattle.prog_paths.specs.Questions.{question_facts};
+ghost use Rattle.prog_paths.specs.Facts.{question_facts};
 ghost use Rattle.prog_check.specs.declared.path.Access.{Access};
-ghost use Rattle.prog_paths.specs.Asked.{IsQuestion, ChangesSingleCells, two, between};
+ghost use Rattle.prog_paths.specs.Questions.{IsQuestion, ChangesSingleCells, two, between};
 ghost use Rattle.conflict_pairs.specs.Verdicts.{HasFall, NumbersFall, IsShortest, IsRight, TellsExposed};
 ghost use Rattle.conflict_pairs.specs.Alike.{IsAsked, IsJudgedAt};
 ghost use Rattle.conflict_pairs.specs.Pairing.{ArePairsJudged, IsAskedBetween, question_at};

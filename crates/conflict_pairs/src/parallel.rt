@@ -1,7 +1,7 @@
 //! All questions of a list of paths, answered by several threads.
 ghost use Rattle.std.specs.Prelude.{◌≡◌, ◌↔◌, ◌<◌, length, All, IfOk, Err};
 ghost use Rattle.conflict_pairs.specs.declared.fault.PairFault as PairFault;
-ghost use Rattle.prog_paths.specs.Asked.{ChangesSingleCells, questions_of};
+ghost use Rattle.prog_paths.specs.Questions.{ChangesSingleCells, questions_of};
 ghost use Rattle.prog_paths.specs.Limits.{most_questions};
 ghost use Rattle.conflict_pairs.specs.Pairing.{ArePairsJudged, IsAskedBetween};
 ghost use Rattle.conflict_pairs.specs.Table.{verdicts_in, StandsFor};

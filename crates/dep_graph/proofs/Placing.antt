@@ -4,7 +4,7 @@ use Rattle.std.specs.Prelude.{slice_get}
 use Rattle.prog_check.specs.declared.path.Path.{Path}
 use Rattle.prog_paths.specs.StaticGraph.{AsksReadWrite, HasQuestion, IsExposed}
 use Rattle.conflict_pairs.specs.Table.{Judged, Table}
-use Rattle.prog_paths.specs.Asked.{numbers_of}
+use Rattle.prog_paths.specs.Questions.{numbers_of}
 
 -- the question at a place of the table makes the edge from x to y vulnerable
 pub record IsExposedAt (paths : List Path) (t : Table) (x y n : ℕ) : Type 0 where

@@ -12,7 +12,7 @@ use Rattle.prog_paths.specs.Meeting.{CanMeet}
 use Rattle.prog_paths.specs.StaticGraph.{Question, AsksOf, AsksReadWrite, StaticEdge, IsExposed, IsVulnerable}
 use Rattle.prog_paths.specs.declared.accesses.places.Question.{Question as Asked}
 use Rattle.prog_paths.specs.declared.accesses.mark.Mark.{Mark}
-use Rattle.prog_paths.specs.Asked.{numbers_of, questions_of}
+use Rattle.prog_paths.specs.Questions.{numbers_of, questions_of}
 use Rattle.prog_paths.specs.Listing.{IsAskedOf, IsBefore}
 use Rattle.prog_paths.specs.Marks.{mark_by, gives_edge, gives_vulnerable}
 use Rattle.prog_paths.proofs.Edges.{HasQuestion-inside, EdgeOf-inside}

@@ -5,7 +5,7 @@ use Rattle.prog_paths.specs.StaticGraph.{AsksReadWrite, HasQuestion, IsExposed, 
 use Rattle.conflict_pairs.specs.declared.verdicts.Verdict.TheVariants.{Exposed}
 use Rattle.conflict_pairs.specs.Verdicts.{IsExposedBy}
 use Rattle.conflict_pairs.specs.Table.{Judged, Table}
-use Rattle.prog_paths.specs.Asked.{numbers_of}
+use Rattle.prog_paths.specs.Questions.{numbers_of}
 use Rattle.dep_graph.specs.declared.danger.Danger.{Danger}
 use Rattle.dep_graph.specs.declared.danger.Exposure.{Exposure}
 use Rattle.prog_paths.specs.Listing.{IsAtMost}

@@ -13,7 +13,7 @@ use Rattle.prog_check.specs.declared.path.Kind.TheVariants.{Reads, Sees, Lacks, 
 use Rattle.prog_check.specs.declared.path.Term.TheVariants.{Param}
 use Rattle.prog_paths.specs.declared.accesses.places.Placed.{Placed}
 use Rattle.prog_paths.specs.declared.accesses.places.Question.{Question as Asked}
-use Rattle.prog_paths.specs.Asked.{asks, kinds_depend, both_write, is_in_order, question_between, asked_by}
+use Rattle.prog_paths.specs.Questions.{asks, kinds_depend, both_write, is_in_order, question_between, asked_by}
 use Rattle.prog_paths.specs.Tally.{of_table}
 use Rattle.prog_paths.specs.Changers.{changes, changers_of}
 use Rattle.prog_paths.proofs.Counted.{asks-other}

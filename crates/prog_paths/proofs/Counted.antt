@@ -9,9 +9,9 @@ use Rattle.prog_check.specs.declared.path.Kind.{Kind}
 use Rattle.prog_check.specs.declared.path.Kind.TheVariants.{Reads, Sees, Lacks, Writes, Adds, Keeps}
 use Rattle.prog_paths.specs.declared.accesses.places.Placed.{Placed}
 use Rattle.prog_paths.specs.declared.accesses.tally.Tally.{Tally}
-use Rattle.prog_paths.specs.Asked.{asks, kinds_depend, both_write, is_in_order, question_between, asked_by, asked_among}
+use Rattle.prog_paths.specs.Questions.{asks, kinds_depend, both_write, is_in_order, question_between, asked_by, asked_among}
 use Rattle.prog_paths.specs.Tally.{IsTally, StandsBehind, is_read, is_look, is_write, is_add, of_table, count_of, capped}
-use Rattle.prog_paths.proofs.Asked.{asked_by-append, asked_among-append}
+use Rattle.prog_paths.proofs.Questions.{asked_by-append, asked_among-append}
 
 -- ---- lengths
 

@@ -5,7 +5,7 @@ use Rattle.prog_check.specs.declared.path.Kind.{Kind}
 use Rattle.prog_check.specs.declared.path.Access.{Access}
 use Rattle.prog_check.specs.declared.path.Path.{Path}
 use Rattle.prog_paths.specs.StaticGraph.{Question, AsksOf, AsksReadWrite, AsksWriteRead, AsksWriteWrite, HasQuestion, EdgeOf}
-use Rattle.prog_paths.specs.Asked.{Asks}
+use Rattle.prog_paths.specs.Questions.{Asks}
 
 pub HasQuestion-weaker : (asks : Question → Kind → Kind → Type 0) (P Q : Question → Access → Access → Type 0) (nodes : List Path) → ((q : Question) (mine theirs : Access) → AsksOf nodes q mine theirs → asks q mine.kind theirs.kind → P q mine theirs → Q q mine theirs) → (x y : ℕ) → HasQuestion asks P nodes x y → HasQuestion asks Q nodes x y
 HasQuestion-weaker asks P Q nodes f x y h = record {

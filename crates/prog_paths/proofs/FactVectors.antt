@@ -9,7 +9,7 @@ use Rattle.order_facts.specs.Chain.{IsChain, RunsBetween}
 use Rattle.prog_check.specs.declared.path.Kind.TheVariants.{Reads, Lacks, Writes, Adds}
 use Rattle.prog_check.specs.declared.path.Term.TheVariants.{Param, Literal, Unknown}
 use Rattle.prog_check.specs.declared.path.Access.{Access}
-use Rattle.prog_paths.specs.Questions.{question_facts}
+use Rattle.prog_paths.specs.Facts.{question_facts}
 use Rattle.prog_paths.proofs.GraphVectors.{at_one, at_two}
 
 abbrev fact : Node → Node → Fact

@@ -22,10 +22,10 @@ pub mod GraphVectors
 pub mod FactVectors
 pub mod LedgerVectors
 pub mod Nodes
-pub mod Questions
+pub mod Facts
 pub mod SingleCells
 pub mod Shown
-pub mod Asked
+pub mod Questions
 pub mod Changing
 pub mod Counted
 pub mod Walked

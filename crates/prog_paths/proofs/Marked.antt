@@ -9,7 +9,7 @@ use Rattle.prog_check.specs.declared.path.Access.{Access}
 use Rattle.prog_check.specs.declared.path.Path.{Path}
 use Rattle.prog_paths.specs.StaticGraph.{Question, IsAccessOf, AsksOf, AsksReadWrite, AsksWriteRead, AsksWriteWrite, HasQuestion, EdgeOf}
 use Rattle.prog_paths.specs.declared.accesses.places.Question.{Question as Asked}
-use Rattle.prog_paths.specs.Asked.{Asks, asks_read_write, asks_write_read, both_write, numbers_of}
+use Rattle.prog_paths.specs.Questions.{Asks, asks_read_write, asks_write_read, both_write, numbers_of}
 use Rattle.prog_paths.specs.Listing.{IsAskedOf}
 use Rattle.prog_paths.specs.Marks.{mark_by, gives_edge, gives_vulnerable}
 

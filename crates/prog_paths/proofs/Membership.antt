@@ -10,11 +10,11 @@ use Rattle.prog_check.specs.declared.path.Path.{Path}
 use Rattle.prog_paths.specs.StaticGraph.{Question, IsInOrder}
 use Rattle.prog_paths.specs.declared.accesses.places.Placed.{Placed}
 use Rattle.prog_paths.specs.declared.accesses.places.Question.{Question as Asked}
-use Rattle.prog_paths.specs.Asked.{Asks, asks, kinds_depend, both_write, is_in_order, question_between, placed_from, all_from, asked_by, asked_among, questions_of}
-use Rattle.prog_paths.specs.Asked.{numbers_of}
+use Rattle.prog_paths.specs.Questions.{Asks, asks, kinds_depend, both_write, is_in_order, question_between, placed_from, all_from, asked_by, asked_among, questions_of}
+use Rattle.prog_paths.specs.Questions.{numbers_of}
 use Rattle.prog_paths.specs.Places.{IsAt}
 use Rattle.prog_paths.specs.Listing.{IsAskedOf, LawOfListing}
-use Rattle.prog_paths.proofs.Asked.{placed, all_places_stand}
+use Rattle.prog_paths.proofs.Questions.{placed, all_places_stand}
 use Rattle.prog_tree.proofs.Elements.{IsMember, member_from_contains, contains_from_member, member_all, member_left, member_right, member_either}
 
 -- ---- what is asked

@@ -8,9 +8,9 @@ use Rattle.prog_check.specs.declared.path.Path.{Path}
 use Rattle.prog_paths.specs.StaticGraph.{Question}
 use Rattle.prog_paths.specs.declared.accesses.places.Placed.{Placed}
 use Rattle.prog_paths.specs.declared.accesses.places.Question.{Question as Asked}
-use Rattle.prog_paths.specs.Asked.{asks, question_between, placed_from, all_from, asked_by, asked_among, numbers_of}
+use Rattle.prog_paths.specs.Questions.{asks, question_between, placed_from, all_from, asked_by, asked_among, numbers_of}
 use Rattle.prog_paths.specs.Listing.{IsPlaceBefore, IsBefore, RiseBy, LawOfOrder}
-use Rattle.prog_paths.proofs.Asked.{placed, if_append}
+use Rattle.prog_paths.proofs.Questions.{placed, if_append}
 
 abbrev Before : Asked → Asked → Type 0
 Before p q = IsBefore (numbers_of p) (numbers_of q)

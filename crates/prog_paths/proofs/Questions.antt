@@ -1,182 +1,114 @@
--- Assignments meet the facts of a question just where they make its accesses meet.
-use Rattle.std.specs.Prelude.{◌≡◌, ℤ, List, [], ◌∷◌, ◌++◌, ◌≤ℤ◌, pos, Option, Some, None}
-use Rattle.std.proofs.Common.{refl, sym, subst, arith}
-use Rattle.std.proofs.lemmas.List.Elements.{All-nil, All-cons, All-head, All-tail}
-use Rattle.std.proofs.lemmas.Int.{ints}
-use lib.Signed.{≤ℤ_refl}
-use Rattle.prog_tree.specs.declared.cell.Cell.{Cell}
-use Rattle.order_facts.specs.declared.steps.Fact.{Fact}
-use Rattle.order_facts.specs.Chain as facts
-use Rattle.prog_check.specs.declared.path.Term.{Term}
-use Rattle.prog_check.specs.declared.path.Term.TheVariants.{Param, Literal, Unknown}
-use Rattle.prog_check.specs.declared.path.Column.{Column}
+-- Questions and places of lists, one element or one part at a time.
+use Rattle.std.proofs.Common.{◌≡◌, ℕ, ◌<◌, ◌≤◌, ◌+◌, Bool, true, false, List, [], ◌∷◌, ◌++◌, length, get_or, drop, refl, sym, subst, ap, ◌∙◌, arith, append_assoc, suc}
+use Rattle.std.specs.Prelude.{Some, slice_get, All, if◌then◌else◌}
+use Rattle.std.proofs.lemmas.Bool.{false≢true}
+use Rattle.std.proofs.lemmas.List.{drop_more, drop_all, append-nil}
+use Rattle.std.proofs.lemmas.List.Elements.{All-nil, All-cons, All-append}
 use Rattle.prog_check.specs.declared.path.Access.{Access}
-use Rattle.prog_paths.specs.Meeting.{Assignment, MeetsUnder, CanMeet, Meet, number_under, second_under, IsSingle, IsSingleSecond, IsWithin, IsWithinSecond}
-use Rattle.prog_paths.specs.Questions.{mine_node, their_node, column_facts, column_or_zero, second_facts, question_facts, both, LawOfMeeting, LawOfQuestions, EntailsEqual, LawOfEqualTerms}
+use Rattle.prog_check.specs.declared.path.Path.{Path}
+use Rattle.prog_paths.specs.declared.accesses.places.Placed.{Placed}
+use Rattle.prog_paths.specs.declared.accesses.places.Question.{Question as Asked}
+use Rattle.prog_paths.specs.Questions.{asks, question_between, placed_from, all_from, accesses_by, program_from, asked_by, asked_among}
+use Rattle.prog_paths.specs.Places.{IsAt}
 
--- ---- terms
+-- ---- lists of places
 
-value-mine : (v w : Assignment) (t : Term) → facts.value_under (both v w) (mine_node t) ≡ number_under v t
-value-mine v w (Param i) = refl
-value-mine v w (Literal k) = refl
-value-mine v w (Unknown i) = refl
+abbrev pub placed : ℕ → ℕ → Access → Placed
+placed node number access = record { node = node; number = number; access = access }
 
-value-theirs : (v w : Assignment) (t : Term) → facts.value_under (both v w) (their_node t) ≡ number_under w t
-value-theirs v w (Param i) = refl
-value-theirs v w (Literal k) = refl
-value-theirs v w (Unknown i) = refl
+pub placed-more : (old new whole : List Placed) (node n : ℕ) (xs : List Access) (d : Access) → n < length xs → new ≡ old ++ placed node n (get_or xs n d) ∷ [] → old ++ placed_from node n (drop n xs) ≡ whole → new ++ placed_from node (n + 1) (drop (n + 1) xs) ≡ whole
+placed-more old new whole node n xs d lt e h =
+    ap (λ (l : List Placed). l ++ placed_from node (n + 1) (drop (n + 1) xs)) e
+    ∙ append_assoc old (placed node n (get_or xs n d) ∷ []) (placed_from node (n + 1) (drop (n + 1) xs))
+    ∙ ap (λ (l : List Access). old ++ placed_from node n l) (sym (drop_more xs n d lt))
+    ∙ h
 
--- ---- one column
+pub placed-end : (old whole : List Placed) (node n : ℕ) (xs : List Access) → length xs ≤ n → old ++ placed_from node n (drop n xs) ≡ whole → old ≡ whole
+placed-end old whole node n xs le h = sym (append-nil old) ∙ ap (λ (l : List Access). old ++ placed_from node n l) (sym (drop_all n xs le)) ∙ h
 
-Holds : Assignment → Assignment → Fact → Type 0
-Holds v w f = facts.value_under (both v w) f.lo ≤ℤ facts.value_under (both v w) f.hi
+pub all-more : (old new whole : List Placed) (n : ℕ) (paths : List Path) (path : Path) → n < length paths → path ≡ get_or paths n path → new ≡ old ++ placed_from n 0 path.accesses → old ++ all_from n (drop n paths) ≡ whole → new ++ all_from (n + 1) (drop (n + 1) paths) ≡ whole
+all-more old new whole n paths path lt is e h =
+    ap (λ (l : List Placed). l ++ all_from (n + 1) (drop (n + 1) paths)) e
+    ∙ append_assoc old (placed_from n 0 path.accesses) (all_from (n + 1) (drop (n + 1) paths))
+    ∙ ap (λ (l : List Path). old ++ all_from n l) (sym (drop_more paths n path lt ∙ ap (λ (p : Path). p ∷ drop (n + 1) paths) (sym is)))
+    ∙ h
 
-abbrev low_fact : Column → Column → Fact
-low_fact mine theirs = record { lo = mine_node mine.low; hi = their_node theirs.low }
+pub all-end : (old whole : List Placed) (n : ℕ) (paths : List Path) → length paths ≤ n → old ++ all_from n (drop n paths) ≡ whole → old ≡ whole
+all-end old whole n paths le h = sym (append-nil old) ∙ ap (λ (l : List Path). old ++ all_from n l) (sym (drop_all n paths le)) ∙ h
 
-abbrev high_fact : Column → Column → Fact
-high_fact mine theirs = record { lo = their_node theirs.low; hi = mine_node mine.high }
+pub program-more : (program : ℕ) (old new whole : List Placed) (n : ℕ) (paths : List Path) (path : Path) → n < length paths → path ≡ get_or paths n path → new ≡ old ++ placed_from n 0 (accesses_by program path) → old ++ program_from program n (drop n paths) ≡ whole → new ++ program_from program (n + 1) (drop (n + 1) paths) ≡ whole
+program-more program old new whole n paths path lt is e h =
+    ap (λ (l : List Placed). l ++ program_from program (n + 1) (drop (n + 1) paths)) e
+    ∙ append_assoc old (placed_from n 0 (accesses_by program path)) (program_from program (n + 1) (drop (n + 1) paths))
+    ∙ ap (λ (l : List Path). old ++ program_from program n l) (sym (drop_more paths n path lt ∙ ap (λ (p : Path). p ∷ drop (n + 1) paths) (sym is)))
+    ∙ h
 
--- the single value of the second column lies between the ends of the first
-abbrev IsBetween : Assignment → Column → Assignment → Column → Type 0
-IsBetween v mine w theirs = (number_under v mine.low ≤ℤ number_under w theirs.low) × (number_under w theirs.low ≤ℤ number_under v mine.high)
+pub program-end : (program : ℕ) (old whole : List Placed) (n : ℕ) (paths : List Path) → length paths ≤ n → old ++ program_from program n (drop n paths) ≡ whole → old ≡ whole
+program-end program old whole n paths le h = sym (append-nil old) ∙ ap (λ (l : List Path). old ++ program_from program n l) (sym (drop_all n paths le)) ∙ h
 
--- the facts of one column before others, and what is between
-meets-column : (v w : Assignment) (mine theirs : Column) (rest : List Fact) → IsBetween v mine w theirs → facts.Meets (both v w) rest → facts.Meets (both v w) (column_facts mine theirs ++ rest)
-unfolding Holds
-meets-column v w mine theirs rest b h =
-    let low : Holds v w (low_fact mine theirs) = rw (value-mine v w mine.low, value-theirs v w theirs.low) b.0 in
-    let high : Holds v w (high_fact mine theirs) = rw (value-mine v w mine.high, value-theirs v w theirs.low) b.1 in
-    All-cons (Holds v w) (low_fact mine theirs) (high_fact mine theirs ∷ rest) low (All-cons (Holds v w) (high_fact mine theirs) rest high h)
+-- ---- each stands at its place
 
-between-column : (v w : Assignment) (mine theirs : Column) (rest : List Fact) → facts.Meets (both v w) (column_facts mine theirs ++ rest) → IsBetween v mine w theirs × facts.Meets (both v w) rest
-unfolding Holds
-between-column v w mine theirs rest h =
-    let later = All-tail (Holds v w) (low_fact mine theirs) (high_fact mine theirs ∷ rest) h in
-    let low : Holds v w (low_fact mine theirs) = All-head (Holds v w) (low_fact mine theirs) (high_fact mine theirs ∷ rest) h in
-    let high : Holds v w (high_fact mine theirs) = All-head (Holds v w) (high_fact mine theirs) rest later in (
-      (rw (value-mine v w mine.low, value-theirs v w theirs.low) at low, rw (value-mine v w mine.high, value-theirs v w theirs.low) at high),
-      All-tail (Holds v w) (high_fact mine theirs) rest later,
-    )
+abbrev Continues : {A : Type 0} → List A → ℕ → List A → Type 0
+Continues {A = A} whole n rest = (i : ℕ) (x : A) → slice_get rest i ≡ Some x → slice_get whole (n + i) ≡ Some x
 
--- a value within both columns, of which the second is single, is that one
-between-within : (v w : Assignment) (mine theirs : Column) (z : ℤ) → theirs.low ≡ theirs.high → IsWithin v mine z → IsWithin w theirs z → IsBetween v mine w theirs
-between-within v w mine theirs z e a b =
-    let l = a.0 in
-    let h = a.1 in
-    let k = b.0 in
-    let g = subst (λ (t : Term). z ≤ℤ number_under w t) (sym e) b.1 in
-    (omega (arith, ints), omega (arith, ints))
+continues-next : {A : Type 0} (whole : List A) (n : ℕ) (x : A) (rest : List A) → Continues whole n (x ∷ rest) → Continues whole (n + 1) rest
+continues-next {A = A} whole n x rest h i y at =
+    let e : n + 1 + i ≡ n + suc i = omega arith in
+    subst (λ (k : ℕ). slice_get whole k ≡ Some y) (sym e) (h (suc i) y at)
 
-within-single : (w : Assignment) (theirs : Column) → theirs.low ≡ theirs.high → IsWithin w theirs (number_under w theirs.low)
-within-single w theirs e = (≤ℤ_refl _, subst (λ (t : Term). number_under w theirs.low ≤ℤ number_under w t) e (≤ℤ_refl _))
+continues-here : {A : Type 0} (whole : List A) (n : ℕ) (x : A) (rest : List A) → Continues whole n (x ∷ rest) → slice_get whole n ≡ Some x
+continues-here whole n x rest h =
+    let e : n + 0 ≡ n = omega arith in
+    subst (λ (k : ℕ). slice_get whole k ≡ Some x) e (h 0 x refl)
 
--- ---- the second column
+continues-own : {A : Type 0} (whole : List A) → Continues whole 0 whole
+continues-own whole i x at = let e : 0 + i ≡ i = omega arith in subst (λ (k : ℕ). slice_get whole k ≡ Some x) (sym e) at
 
--- the second columns have a number in common, which is the low end of theirs
-abbrev SharesSecond : Assignment → Option Column → Assignment → Option Column → Type 0
-SharesSecond v mine w theirs = (z : ℤ) × IsWithinSecond v mine z × IsWithinSecond w theirs z
+node_at : (paths : List Path) (node n : ℕ) (path : Path) (xs : List Access) → slice_get paths node ≡ Some path → Continues path.accesses n xs → All (λ p. IsAt paths p) (placed_from node n xs)
+node_at paths node n path [] at h = All-nil (λ p. IsAt paths p)
+node_at paths node n path (x ∷ xs) at h =
+    All-cons (λ p. IsAt paths p) (placed node n x) (placed_from node (n + 1) xs) (path, at, continues-here path.accesses n x xs h)
+    (node_at paths node (n + 1) path xs at (continues-next path.accesses n x xs h))
 
-meets-second : (v w : Assignment) (mine theirs : Option Column) → IsSingleSecond theirs → SharesSecond v mine w theirs → facts.Meets (both v w) (second_facts mine theirs)
-meets-second v w None None single s = All-nil _
-meets-second v w None (Some d) single s = meets-column v w (column_or_zero None) d [] (between-within v w (column_or_zero None) d s.0 single (at-zero s.0 s.1) s.2) (All-nil _)
-  where
-    at-zero : (z : ℤ) → z ≡ pos 0 → IsWithin v (column_or_zero None) z
-    at-zero z e = (omega (arith, ints), omega (arith, ints))
-meets-second v w (Some c) None single s = meets-column v w c (column_or_zero None) [] (between-within v w c (column_or_zero None) s.0 refl s.1 (at-zero s.0 s.2)) (All-nil _)
-  where
-    at-zero : (z : ℤ) → z ≡ pos 0 → IsWithin w (column_or_zero None) z
-    at-zero z e = (omega (arith, ints), omega (arith, ints))
-meets-second v w (Some c) (Some d) single s = meets-column v w c d [] (between-within v w c d s.0 single s.1 s.2) (All-nil _)
+all_at : (paths : List Path) (n : ℕ) (rest : List Path) → Continues paths n rest → All (λ p. IsAt paths p) (all_from n rest)
+all_at paths n [] h = All-nil (λ p. IsAt paths p)
+all_at paths n (path ∷ rest) h =
+    All-append (λ p. IsAt paths p) (placed_from n 0 path.accesses) (all_from (n + 1) rest)
+    (node_at paths n 0 path path.accesses (continues-here paths n path rest h) (continues-own path.accesses))
+    (all_at paths (n + 1) rest (continues-next paths n path rest h))
 
-second-within : (v w : Assignment) (mine theirs : Option Column) → IsSingleSecond theirs → facts.Meets (both v w) (second_facts mine theirs) → IsWithinSecond v mine (second_under w theirs) × IsWithinSecond w theirs (second_under w theirs)
-second-within v w None None single h = (refl, refl)
-second-within v w None (Some d) single h =
-    let b = (between-column v w (column_or_zero None) d [] h).0 in
-    (omega (arith, ints), within-single w d single)
-second-within v w (Some c) None single h = ((between-column v w c (column_or_zero None) [] h).0, refl)
-second-within v w (Some c) (Some d) single h = ((between-column v w c d [] h).0, within-single w d single)
+pub all_places_stand : (paths : List Path) → All (λ p. IsAt paths p) (all_from 0 paths)
+all_places_stand paths = all_at paths 0 paths (continues-own paths)
 
--- ---- the laws
+-- ---- what is asked of a list, one more or one part more
 
-Meets-from_meet : (v w : Assignment) (mine theirs : Access) → IsSingle theirs → Meet v mine w theirs → facts.Meets (both v w) (question_facts mine theirs)
-Meets-from_meet v w mine theirs single m =
-    meets-column v w mine.first theirs.first (second_facts mine.second theirs.second)
-    (between-within v w mine.first theirs.first m.0.first single.0 m.1.first m.2.first)
-    (meets-second v w mine.second theirs.second single.1 (m.0.second, m.1.second, m.2.second))
+pub if_yes : (b : Bool) (q : Asked) (l : List Asked) → b ≡ true → (if b then q ∷ l else l) ≡ q ∷ l
+if_yes true q l e = refl
+if_yes false q l e = absurd (false≢true e)
 
-meet-from_Meets : (v w : Assignment) (mine theirs : Access) → mine.table ≡ theirs.table → IsSingle theirs → facts.Meets (both v w) (question_facts mine theirs) → Meet v mine w theirs
-meet-from_Meets v w mine theirs table single h =
-    let parts = between-column v w mine.first theirs.first (second_facts mine.second theirs.second) h in
-    let second = second-within v w mine.second theirs.second single.1 parts.1 in
-    let cell : Cell = record { table = theirs.table; first = number_under w theirs.first.low; second = second_under w theirs.second } in (
-      cell,
-      record { table = sym table; first = parts.0; second = second.0 },
-      record { table = refl; first = within-single w theirs.first single.0; second = second.1 },
-    )
+pub if_no : (b : Bool) (q : Asked) (l : List Asked) → b ≡ false → (if b then q ∷ l else l) ≡ l
+if_no true q l e = absurd (false≢true (sym e))
+if_no false q l e = refl
 
-pub law_of_meeting : LawOfMeeting
-law_of_meeting mine theirs table single v w = (meet-from_Meets v w mine theirs table single, Meets-from_meet v w mine theirs single)
+pub if_append : (b : Bool) (q : Asked) (l r : List Asked) → (if b then q ∷ l else l) ++ r ≡ (if b then q ∷ (l ++ r) else l ++ r)
+if_append true q l r = refl
+if_append false q l r = refl
 
--- an assignment of both sides, taken apart
-abbrev of_mine : facts.Assignment → Assignment
-of_mine u = record { parameter = u.mine; unknown = u.mine_unknown }
+pub asked_by-yes : (first : Placed) (n : ℕ) (xs : List Placed) (d : Placed) → n < length xs → asks first (get_or xs n d) ≡ true → asked_by first (drop n xs) ≡ question_between first (get_or xs n d) ∷ asked_by first (drop (n + 1) xs)
+asked_by-yes first n xs d lt e = ap (asked_by first) (drop_more xs n d lt) ∙ if_yes (asks first (get_or xs n d)) (question_between first (get_or xs n d)) (asked_by first (drop (n + 1) xs)) e
 
-abbrev of_theirs : facts.Assignment → Assignment
-of_theirs u = record { parameter = u.theirs; unknown = u.theirs_unknown }
+pub asked_by-no : (first : Placed) (n : ℕ) (xs : List Placed) (d : Placed) → n < length xs → asks first (get_or xs n d) ≡ false → asked_by first (drop n xs) ≡ asked_by first (drop (n + 1) xs)
+asked_by-no first n xs d lt e = ap (asked_by first) (drop_more xs n d lt) ∙ if_no (asks first (get_or xs n d)) (question_between first (get_or xs n d)) (asked_by first (drop (n + 1) xs)) e
 
-pub law_of_questions : LawOfQuestions
-law_of_questions mine theirs table single = (can-meet, consistent)
-  where
-    can-meet : facts.IsConsistent (question_facts mine theirs) → CanMeet mine theirs
-    can-meet c = (
-      of_mine c.0,
-      of_theirs c.0,
-      record {
-        mine_of_i64 = record { parameter = c.1.mine; unknown = c.1.mine_unknown };
-        theirs_of_i64 = record { parameter = c.1.theirs; unknown = c.1.theirs_unknown };
-        meet = meet-from_Meets (of_mine c.0) (of_theirs c.0) mine theirs table single c.2;
-      },
-    )
+pub asked_among-next : (n : ℕ) (xs seconds : List Placed) (d : Placed) → n < length xs → asked_among (drop n xs) seconds ≡ asked_by (get_or xs n d) seconds ++ asked_among (drop (n + 1) xs) seconds
+asked_among-next n xs seconds d lt = ap (λ (l : List Placed). asked_among l seconds) (drop_more xs n d lt)
 
-    consistent : CanMeet mine theirs → facts.IsConsistent (question_facts mine theirs)
-    consistent m = (
-      both m.0 m.1,
-      record {
-        mine = m.2.mine_of_i64.parameter;
-        mine_unknown = m.2.mine_of_i64.unknown;
-        theirs = m.2.theirs_of_i64.parameter;
-        theirs_unknown = m.2.theirs_of_i64.unknown;
-      },
-      Meets-from_meet m.0 m.1 mine theirs single m.2.meet,
-    )
+pub asked_by-append : (first : Placed) (xs ys : List Placed) → asked_by first (xs ++ ys) ≡ asked_by first xs ++ asked_by first ys
+asked_by-append first [] ys = refl
+asked_by-append first (x ∷ xs) ys =
+    ap (λ (l : List Asked). if asks first x then question_between first x ∷ l else l) (asked_by-append first xs ys)
+    ∙ sym (if_append (asks first x) (question_between first x) (asked_by first xs) (asked_by first ys))
 
-pub law_of_equal_terms : LawOfEqualTerms
-law_of_equal_terms mine theirs table single s t = (equal, entailed)
-  where
-    equal : EntailsEqual mine theirs s t → (v w : Assignment) → MeetsUnder v w mine theirs → number_under v s ≡ number_under w t
-    equal e v w m =
-        let of_i64 : facts.IsOfI64 (both v w) = record {
-          mine = m.mine_of_i64.parameter;
-          mine_unknown = m.mine_of_i64.unknown;
-          theirs = m.theirs_of_i64.parameter;
-          theirs_unknown = m.theirs_of_i64.unknown;
-        } in
-        let meets = Meets-from_meet v w mine theirs single m.meet in
-        let up = rw (value-mine v w s, value-theirs v w t) at (e.0 (both v w) of_i64 meets) in
-        let down = rw (value-mine v w s, value-theirs v w t) at (e.1 (both v w) of_i64 meets) in
-        omega (arith, ints)
-
-    same : ((v w : Assignment) → MeetsUnder v w mine theirs → number_under v s ≡ number_under w t)
-        → (u : facts.Assignment) → facts.IsOfI64 u → facts.Meets u (question_facts mine theirs) → number_under (of_mine u) s ≡ number_under (of_theirs u) t
-    same h u o m = h (of_mine u) (of_theirs u) (record {
-      mine_of_i64 = record { parameter = o.mine; unknown = o.mine_unknown };
-      theirs_of_i64 = record { parameter = o.theirs; unknown = o.theirs_unknown };
-      meet = meet-from_Meets (of_mine u) (of_theirs u) mine theirs table single m;
-    })
-
-    entailed : ((v w : Assignment) → MeetsUnder v w mine theirs → number_under v s ≡ number_under w t) → EntailsEqual mine theirs s t
-    entailed h = (
-      λ u o m. rw (value-mine (of_mine u) (of_theirs u) s, value-theirs (of_mine u) (of_theirs u) t, same h u o m) (≤ℤ_refl _),
-      λ u o m. rw (value-mine (of_mine u) (of_theirs u) s, value-theirs (of_mine u) (of_theirs u) t, same h u o m) (≤ℤ_refl _),
-    )
+pub asked_among-append : (xs ys seconds : List Placed) → asked_among (xs ++ ys) seconds ≡ asked_among xs seconds ++ asked_among ys seconds
+asked_among-append [] ys seconds = refl
+asked_among-append (x ∷ xs) ys seconds = ap (λ (l : List Asked). asked_by x seconds ++ l) (asked_among-append xs ys seconds) ∙ sym (append_assoc (asked_by x seconds) (asked_among xs seconds) (asked_among ys seconds))

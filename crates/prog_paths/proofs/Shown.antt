@@ -16,9 +16,9 @@ use Rattle.prog_check.specs.declared.path.Access.{Access}
 use Rattle.prog_check.specs.declared.path.Path.{Path}
 use Rattle.prog_paths.specs.Meeting.{Assignment, MeetsUnder, CanMeet, MayTouch, MayCover, IsSingle, AreSameCell, second_under}
 use Rattle.prog_paths.specs.StaticGraph.{Question}
-use Rattle.prog_paths.specs.Questions.{question_facts, AreEqualWhereTheyMeet, EntailsEqual}
-use Rattle.prog_paths.proofs.Questions.{law_of_questions, law_of_equal_terms}
-use Rattle.prog_paths.specs.Asked.{Asks, ChangesSingleCells}
+use Rattle.prog_paths.specs.Facts.{question_facts, AreEqualWhereTheyMeet, EntailsEqual}
+use Rattle.prog_paths.proofs.Facts.{law_of_questions, law_of_equal_terms}
+use Rattle.prog_paths.specs.Questions.{Asks, ChangesSingleCells}
 use Rattle.prog_paths.specs.Shown.{Falls, second_pair}
 use Rattle.prog_paths.specs.Shown.{AllEqual, CoversBy}
 

@@ -13,7 +13,7 @@ use Rattle.prog_check.specs.declared.path.Path.{Path}
 use Rattle.prog_check.specs.Accesses.{Columns, key_columns, range_columns, columns_of, next_unknown, kinds_at, access_of, accesses_of}
 use Rattle.prog_check.specs.Paths.{Passed, Route, accesses_along, path_of, routes, program_paths, paths_from, paths_of}
 use Rattle.prog_paths.specs.Meeting.{MayTouch, IsSingle, IsSingleSecond}
-use Rattle.prog_paths.specs.Questions.{LawOfSingleCells}
+use Rattle.prog_paths.specs.Facts.{LawOfSingleCells}
 use Rattle.prog_paths.specs.Listing.{LawOfSingleChanges}
 
 abbrev TouchesSingly : Access → Type 0

@@ -1,7 +1,7 @@
-pub mod Asked
 pub mod Changers
 pub mod Choices
 pub mod Columns
+pub mod Facts
 pub mod Few
 pub mod Follows
 pub mod Kinds

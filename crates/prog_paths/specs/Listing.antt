@@ -6,7 +6,7 @@ use Rattle.prog_check.specs.declared.path.Access.{Access}
 use Rattle.prog_check.specs.declared.path.Path.{Path}
 use Rattle.prog_paths.specs.StaticGraph.{Question, AsksOf}
 use Rattle.prog_paths.specs.declared.accesses.places.Question.{Question as Asked}
-use Rattle.prog_paths.specs.Asked.{Asks, ChangesSingleCells, numbers_of, questions_of}
+use Rattle.prog_paths.specs.Questions.{Asks, ChangesSingleCells, numbers_of, questions_of}
 
 -- a question of the paths, with the kinds of its accesses
 pub record IsAskedOf (paths : List Path) (q : Asked) : Type 0 where

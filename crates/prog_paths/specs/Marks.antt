@@ -4,7 +4,7 @@ use Rattle.order_facts.specs.Square.{Enters}
 use Rattle.prog_paths.specs.declared.accesses.places.Question.{Question as Asked}
 use Rattle.prog_paths.specs.declared.accesses.mark.EdgeTables.{EdgeTables}
 use Rattle.prog_paths.specs.declared.accesses.mark.Mark.{Mark}
-use Rattle.prog_paths.specs.Asked.{asks_read_write, asks_write_read, both_write}
+use Rattle.prog_paths.specs.Questions.{asks_read_write, asks_write_read, both_write}
 
 -- what a question gives, by whether its accesses may meet and whether it counts as exposed
 abbrev pub mark_by : Asked → (meets exposed : Bool) → Mark

@@ -1,91 +1,123 @@
--- The facts of a question, and the laws on them: assignments meet them just where the two accesses meet.
-use Rattle.std.specs.Prelude.{◌≡◌, ◌↔◌, ℕ, List, [], ◌∷◌, ◌++◌, pos, Option, Some, None}
-use Rattle.order_facts.specs.declared.steps.Node.{Node}
-use Rattle.order_facts.specs.declared.steps.Node.TheVariants.{Mine, MineUnknown, Theirs, TheirsUnknown, Number}
-use Rattle.order_facts.specs.declared.steps.Fact.{Fact}
-use Rattle.order_facts.specs.Chain as facts
-use Rattle.prog_check.specs.declared.path.Term.{Term}
-use Rattle.prog_check.specs.declared.path.Term.TheVariants.{Param, Literal, Unknown}
-use Rattle.prog_check.specs.declared.path.Column.{Column}
+-- Which questions a list of paths asks, and of what.
+use Rattle.std.specs.Prelude.{ℕ, ◌+◌, List, [], ◌∷◌, ◌++◌, ◌⊎◌, All, Bool, true, false, ◌||◌, ◌&&◌, ◌==◌, nat_lt, nat_le, if◌then◌else◌}
+use Rattle.prog_check.specs.declared.path.Kind.{Kind}
+use Rattle.prog_check.specs.declared.path.Kind.TheVariants.{Reads, Sees, Lacks, Writes, Adds}
 use Rattle.prog_check.specs.declared.path.Access.{Access}
-use Rattle.prog_check.specs.Accesses.{single}
-use Rattle.prog_check.specs.Paths.{paths_of}
-use Rattle.prog_tree.specs.Syntax.{DraftTree}
-use Rattle.prog_paths.specs.Meeting.{Assignment, number_under, Meet, MeetsUnder, CanMeet, MayTouch, IsSingle}
-use Rattle.prog_paths.specs.StaticGraph.{IsAccessOf}
+use Rattle.prog_check.specs.declared.path.Path.{Path}
+use Rattle.prog_paths.specs.Meeting.{MayTouch, IsSingle}
+use Rattle.prog_paths.specs.StaticGraph.{Question, AsksOf, AsksReadWrite, AsksWriteRead, AsksWriteWrite}
+use Rattle.prog_paths.specs.declared.accesses.places.Placed.{Placed}
+use Rattle.prog_paths.specs.declared.accesses.places.Question.{Question as Asked}
 
--- ---- facts
+-- what the kinds of two accesses ask: whether instances can have some dependency by them
+abbrev pub Asks : Question → Kind → Kind → Type 0
+Asks q mine theirs = AsksReadWrite q mine theirs ⊎ AsksWriteRead q mine theirs ⊎ AsksWriteWrite q mine theirs
 
--- what a fact calls a term of the first access
-abbrev pub mine_node : Term → Node
-mine_node (Param i) = Mine i
-mine_node (Literal k) = Number k
-mine_node (Unknown i) = MineUnknown i
+-- a question of the paths: its two accesses are there, use one table, and ask something
+pub record IsQuestion (nodes : List Path) (q : Question) : Type 0 where
+  pub mine : Access
+  pub theirs : Access
+  pub asked : AsksOf nodes q mine theirs
+  pub asks : Asks q mine.kind theirs.kind
 
--- what a fact calls a term of the second access
-abbrev pub their_node : Term → Node
-their_node (Param i) = Theirs i
-their_node (Literal k) = Number k
-their_node (Unknown i) = TheirsUnknown i
+-- what a path changes or keeps is one cell each time, as it is on the paths of a checked set
+abbrev pub ChangesSingleCells : Path → Type 0
+ChangesSingleCells path = All (λ a. MayTouch a → IsSingle a) path.accesses
 
--- the second access's value lies between the first's ends
-abbrev pub column_facts : Column → Column → List Fact
-column_facts mine theirs =
-    record { lo = mine_node mine.low; hi = their_node theirs.low }
-    ∷ record { lo = their_node theirs.low; hi = mine_node mine.high }
-    ∷ []
+-- ---- a question between two paths
 
--- a table of one column has the number 0 for the second
-abbrev pub column_or_zero : Option Column → Column
-column_or_zero None = single (Literal (pos 0))
-column_or_zero (Some column) = column
+-- two paths as the nodes 0 and 1
+abbrev pub two : Path → Path → List Path
+two x y = x ∷ y ∷ []
 
--- the facts on second columns, of which a table of one column has none
-abbrev pub second_facts : Option Column → Option Column → List Fact
-second_facts None None = []
-second_facts None (Some theirs) = column_facts (column_or_zero None) theirs
-second_facts (Some mine) theirs = column_facts mine (column_or_zero theirs)
+-- access `a` of the first of two paths against access `b` of the second
+abbrev pub between : ℕ → ℕ → Question
+between a b = record { x = 0; a = a; y = 1; b = b }
 
--- the facts of a question whose second access is a single cell: it lies within the first access, column by column
-abbrev pub question_facts : Access → Access → List Fact
-question_facts mine theirs = column_facts mine.first theirs.first ++ second_facts mine.second theirs.second
+-- ---- all questions of a list of paths
 
--- ---- the laws
+-- the first kind may miss what the second changes
+abbrev pub asks_read_write : Kind → Kind → Bool
+asks_read_write Reads Writes = true
+asks_read_write Reads Adds = true
+asks_read_write Lacks Adds = true
+asks_read_write _ _ = false
 
--- the assignments of both sides as one
-abbrev pub both : Assignment → Assignment → facts.Assignment
-both v w = record { mine = v.parameter; mine_unknown = v.unknown; theirs = w.parameter; theirs_unknown = w.unknown }
+-- the first kind may see what the second changes
+abbrev pub asks_write_read : Kind → Kind → Bool
+asks_write_read Reads Writes = true
+asks_write_read Reads Adds = true
+asks_write_read Sees Adds = true
+asks_write_read _ _ = false
 
--- a pair of assignments makes an access and a single cell of its table meet just where it meets all facts of the two
-abbrev pub LawOfMeeting : Type 0
-LawOfMeeting =
-    (mine theirs : Access) → mine.table ≡ theirs.table → IsSingle theirs
-    → (v w : Assignment) → facts.Meets (both v w) (question_facts mine theirs) ↔ Meet v mine w theirs
+-- the second kind changes what the first depends on
+abbrev pub kinds_depend : Kind → Kind → Bool
+kinds_depend mine theirs = asks_read_write mine theirs || asks_write_read mine theirs
 
--- an access and a single cell of its table can meet just where the facts of their question are consistent
-abbrev pub LawOfQuestions : Type 0
-LawOfQuestions =
-    (mine theirs : Access) → mine.table ≡ theirs.table → IsSingle theirs
-    → facts.IsConsistent (question_facts mine theirs) ↔ CanMeet mine theirs
+-- both kinds change plain rows
+abbrev pub both_write : Kind → Kind → Bool
+both_write Writes Writes = true
+both_write _ _ = false
 
--- the facts put a term of the first access and one of the second at most each other
-abbrev pub EntailsEqual : Access → Access → Term → Term → Type 0
-EntailsEqual mine theirs s t =
-    facts.ForcesEqual (question_facts mine theirs) (mine_node s) (their_node t)
+-- the first access stands at the second or before it, by node and then by number
+abbrev pub is_in_order : Placed → Placed → Bool
+is_in_order first second =
+    nat_lt first.node second.node || ((first.node == second.node) && nat_le first.number second.number)
 
--- the two terms are equal under each pair of assignments under which the accesses meet
-abbrev pub AreEqualWhereTheyMeet : Access → Access → Term → Term → Type 0
-AreEqualWhereTheyMeet mine theirs s t =
-    (v w : Assignment) → MeetsUnder v w mine theirs → number_under v s ≡ number_under w t
+-- two accesses ask something: they use one table, and one depends on what the other changes, or both write
+abbrev pub asks : Placed → Placed → Bool
+asks first second =
+    (first.access.table == second.access.table)
+    && (kinds_depend first.access.kind second.access.kind
+    || (both_write first.access.kind second.access.kind && is_in_order first second))
 
--- the facts put two terms at most each other just where the two are equal wherever the accesses meet
-abbrev pub LawOfEqualTerms : Type 0
-LawOfEqualTerms =
-    (mine theirs : Access) → mine.table ≡ theirs.table → IsSingle theirs
-    → (s t : Term) → EntailsEqual mine theirs s t ↔ AreEqualWhereTheyMeet mine theirs s t
+-- the question of an access against another
+abbrev pub question_between : Placed → Placed → Asked
+question_between first second = record {
+  x = first.node;
+  a = first.number;
+  y = second.node;
+  b = second.number;
+  mine = first.access.kind;
+  theirs = second.access.kind;
+}
 
--- on a draft's paths each access that changes or keeps is of a single cell, so the second access of a question is
-abbrev pub LawOfSingleCells : Type 0
-LawOfSingleCells =
-    (draft : DraftTree) (x a : ℕ) (access : Access)
-    → IsAccessOf (paths_of draft) x a access → MayTouch access → IsSingle access
+-- the accesses of a node, numbered from here on
+abbrev pub placed_from : ℕ → ℕ → List Access → List Placed
+placed_from node number [] = []
+placed_from node number (access ∷ rest) =
+    record { node = node; number = number; access = access } ∷ placed_from node (number + 1) rest
+
+-- the accesses of all nodes, numbered from here on
+abbrev pub all_from : ℕ → List Path → List Placed
+all_from node [] = []
+all_from node (path ∷ rest) = placed_from node 0 path.accesses ++ all_from (node + 1) rest
+
+-- the accesses of a path, where it is one of a program
+abbrev pub accesses_by : ℕ → Path → List Access
+accesses_by program path = if path.program == program then path.accesses else []
+
+-- the accesses of the nodes that are paths of a program, numbered from here on
+abbrev pub program_from : (program node : ℕ) → List Path → List Placed
+program_from program node [] = []
+program_from program node (path ∷ rest) =
+    placed_from node 0 (accesses_by program path) ++ program_from program (node + 1) rest
+
+-- what one access asks of each of some
+abbrev pub asked_by : Placed → List Placed → List Asked
+asked_by first [] = []
+asked_by first (second ∷ rest) =
+    if asks first second then question_between first second ∷ asked_by first rest else asked_by first rest
+
+-- what each of some accesses asks of each of others
+abbrev pub asked_among : List Placed → List Placed → List Asked
+asked_among [] seconds = []
+asked_among (first ∷ rest) seconds = asked_by first seconds ++ asked_among rest seconds
+
+-- a question's four numbers
+abbrev pub numbers_of : Asked → Question
+numbers_of q = record { x = q.x; a = q.a; y = q.y; b = q.b }
+
+-- all questions of a list of paths, by the first access and then by the second
+abbrev pub questions_of : List Path → List Asked
+questions_of paths = asked_among (all_from 0 paths) (all_from 0 paths)

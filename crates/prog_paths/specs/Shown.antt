@@ -8,7 +8,7 @@ use Rattle.prog_check.specs.declared.path.Term.{Term}
 use Rattle.prog_check.specs.declared.path.Column.{Column}
 use Rattle.prog_check.specs.declared.path.Access.{Access}
 use Rattle.prog_paths.specs.Meeting.{MayCover}
-use Rattle.prog_paths.specs.Questions.{mine_node, their_node, column_or_zero}
+use Rattle.prog_paths.specs.Facts.{mine_node, their_node, column_or_zero}
 
 -- ---- apart
 

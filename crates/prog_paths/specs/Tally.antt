@@ -5,7 +5,7 @@ use Rattle.prog_check.specs.declared.path.Kind.{Kind}
 use Rattle.prog_check.specs.declared.path.Kind.TheVariants.{Reads, Sees, Lacks, Writes, Adds}
 use Rattle.prog_paths.specs.declared.accesses.places.Placed.{Placed}
 use Rattle.prog_paths.specs.declared.accesses.tally.Tally.{Tally}
-use Rattle.prog_paths.specs.Asked.{is_in_order, asked_among}
+use Rattle.prog_paths.specs.Questions.{is_in_order, asked_among}
 use Rattle.prog_paths.specs.Limits.{most_questions}
 
 abbrev pub is_read : Kind → Bool

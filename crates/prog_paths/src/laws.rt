@@ -2,7 +2,7 @@
 ghost use Rattle.prog_paths.specs.Law.{LawOfPaths};
 ghost use Rattle.prog_paths.specs.Listing.{LawOfListing, LawOfOrder, LawOfSingleChanges};
 ghost use Rattle.prog_paths.specs.Own.{LawOfOwnUnknowns, LawOfCovers, LawOfTimes, LawOfValues};
-ghost use Rattle.prog_paths.specs.Questions.{LawOfMeeting, LawOfQuestions, LawOfEqualTerms, LawOfSingleCells};
+ghost use Rattle.prog_paths.specs.Facts.{LawOfMeeting, LawOfQuestions, LawOfEqualTerms, LawOfSingleCells};
 
 /// Each evaluation that ends Ready follows exactly one committing path.
 pub fn law_of_paths()

@@ -10,12 +10,12 @@ mod path;
 pub use accesses::asking::{asks_read_write, may_cover, may_touch};
 pub use accesses::changers::Changers;
 pub use accesses::count::{is_too_large, question_count};
-pub use accesses::mark::{EdgeTables, Mark, mark_by};
-pub use accesses::places::{Placed, Question, all_places, asks, program_places, question_between};
-pub use accesses::question::{
+pub use accesses::facts::{
     QuestionFacts, closed_facts, column_or_zero, mine_node, question_facts, second_terms,
     their_node,
 };
+pub use accesses::mark::{EdgeTables, Mark, mark_by};
+pub use accesses::places::{Placed, Question, all_places, asks, program_places, question_between};
 pub use laws::{
     law_of_listing, law_of_own_unknowns, law_of_paths, law_of_questions, law_of_single_changes,
 };

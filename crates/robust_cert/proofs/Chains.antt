@@ -13,7 +13,7 @@ use Rattle.prog_check.specs.declared.path.Path.{Path}
 use Rattle.prog_paths.specs.Meeting.{MayTouch, IsSingle}
 use Rattle.prog_paths.specs.StaticGraph.{IsAccessOf}
 use Rattle.prog_paths.specs.Shown.{Runs, ShowEqual, AllEqual}
-use Rattle.prog_paths.specs.Asked.{ChangesSingleCells}
+use Rattle.prog_paths.specs.Questions.{ChangesSingleCells}
 use Rattle.prog_paths.proofs.Shown.{single_at}
 
 entailed : (facts : List Fact) (from to : Node) (chain : List Node) → Runs facts from to chain → Entails facts from to

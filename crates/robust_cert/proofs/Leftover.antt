@@ -6,7 +6,7 @@ use Rattle.prog_check.specs.declared.path.Access.{Access}
 use Rattle.prog_check.specs.declared.path.Path.{Path}
 use Rattle.prog_paths.specs.StaticGraph.{Question, AsksReadWrite}
 use Rattle.prog_paths.specs.declared.accesses.places.Question.{Question as Asked}
-use Rattle.prog_paths.specs.Asked.{numbers_of, questions_of}
+use Rattle.prog_paths.specs.Questions.{numbers_of, questions_of}
 use Rattle.prog_paths.specs.Listing.{IsAskedOf, RiseBy}
 use Rattle.prog_paths.specs.Marks.{gives_edge, gives_vulnerable}
 use Rattle.order_facts.specs.Square.{Joins}

@@ -8,11 +8,11 @@ use Rattle.std.proofs.lemmas.List.Elements.{All-nil, All-cons, All-head, All-tai
 use Rattle.prog_check.specs.declared.path.Path.{Path}
 use Rattle.prog_paths.specs.declared.accesses.places.Placed.{Placed}
 use Rattle.prog_paths.specs.declared.accesses.places.Question.{Question as Asked}
-use Rattle.prog_paths.specs.Asked.{asked_by, asked_among, questions_of, numbers_of}
+use Rattle.prog_paths.specs.Questions.{asked_by, asked_among, questions_of, numbers_of}
 use Rattle.prog_paths.specs.Changers.{changers_of}
 use Rattle.prog_paths.specs.Tally.{of_table}
 use Rattle.prog_paths.specs.Listing.{IsBefore, RiseBy}
-use Rattle.prog_paths.proofs.Asked.{asked_by-append, asked_among-append}
+use Rattle.prog_paths.proofs.Questions.{asked_by-append, asked_among-append}
 use Rattle.prog_paths.proofs.Changing.{seconds_ask}
 use Rattle.prog_paths.proofs.Order.{law_of_order}
 use Rattle.prog_paths.specs.declared.accesses.mark.EdgeTables.{EdgeTables}

@@ -4,7 +4,7 @@ use Rattle.order_facts.specs.declared.steps.Node.{Node}
 use Rattle.prog_check.specs.declared.path.Access.{Access}
 use Rattle.prog_check.specs.declared.path.Path.{Path}
 use Rattle.prog_paths.specs.StaticGraph.{Question}
-use Rattle.prog_paths.specs.Questions.{question_facts}
+use Rattle.prog_paths.specs.Facts.{question_facts}
 use Rattle.prog_paths.specs.Shown.{key_pairs, ShowEqual}
 use Rattle.robust_cert.specs.declared.certificate.EntryQuestion.{EntryQuestion}
 use Rattle.robust_cert.specs.declared.entries.Reason.{Reason}

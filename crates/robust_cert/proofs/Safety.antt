@@ -8,8 +8,8 @@ use Rattle.prog_check.specs.Paths.{paths_of}
 use Rattle.order_facts.specs.declared.steps.Node.{Node}
 use Rattle.prog_paths.specs.Meeting.{CanMeet}
 use Rattle.prog_paths.specs.StaticGraph.{Question, AsksOf, AsksReadWrite, IsAccessOf, StaticEdge, IsCovered, IsExposed, IsVulnerable, Leads, here, onward, IsDangerousAt, IsDangerous}
-use Rattle.prog_paths.specs.Asked.{Asks, ChangesSingleCells}
-use Rattle.prog_paths.specs.Questions.{question_facts}
+use Rattle.prog_paths.specs.Questions.{Asks, ChangesSingleCells}
+use Rattle.prog_paths.specs.Facts.{question_facts}
 use Rattle.prog_paths.specs.Shown.{Falls, key_pairs, AllEqual}
 use Rattle.prog_paths.proofs.Shown.{IsPair, apart-from_Falls, same-from_CoversBy, may_touch-second}
 use Rattle.prog_paths.proofs.Marked.{same_access}

@@ -5,8 +5,8 @@ use Rattle.prog_check.specs.declared.path.Path.{Path}
 use Rattle.prog_paths.specs.Meeting.{MayCover}
 use Rattle.prog_paths.specs.StaticGraph.{IsAccessOf, AsksOf, AsksReadWrite, HasQuestion, EdgeOf}
 use Rattle.prog_paths.specs.StaticGraph as graph
-use Rattle.prog_paths.specs.Questions.{question_facts}
-use Rattle.prog_paths.specs.Asked.{IsQuestion, questions_of}
+use Rattle.prog_paths.specs.Facts.{question_facts}
+use Rattle.prog_paths.specs.Questions.{IsQuestion, questions_of}
 use Rattle.prog_paths.specs.Limits.{most_questions}
 use Rattle.prog_paths.specs.Listing.{RiseBy}
 use Rattle.prog_paths.specs.Shown.{Falls, key_pairs, ShowEqual}

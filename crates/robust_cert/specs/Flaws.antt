@@ -7,8 +7,8 @@ use Rattle.order_facts.specs.Chain.{RunsBetween}
 use Rattle.prog_check.specs.declared.path.Access.{Access}
 use Rattle.prog_check.specs.declared.path.Path.{Path}
 use Rattle.prog_paths.specs.StaticGraph.{Question, AsksOf}
-use Rattle.prog_paths.specs.Asked.{Asks}
-use Rattle.prog_paths.specs.Questions.{question_facts}
+use Rattle.prog_paths.specs.Questions.{Asks}
+use Rattle.prog_paths.specs.Facts.{question_facts}
 use Rattle.prog_paths.specs.Shown.{key_pairs}
 use Rattle.robust_cert.specs.declared.checking.by_facts.AskedPair.{AskedPair}
 use Rattle.robust_cert.specs.declared.checking.flaw.EntryFlaw.{EntryFlaw}

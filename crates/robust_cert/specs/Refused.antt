@@ -1,7 +1,7 @@
 -- The first fault of a certificate that is not accepted.
 use Rattle.std.specs.Prelude.{◌≡◌, ℕ, ◌<◌, ◌≤◌, ◌+◌, List, [], ◌∷◌, length, map, All, take, Some, slice_get}
 use Rattle.prog_check.specs.declared.path.Path.{Path}
-use Rattle.prog_paths.specs.Asked.{IsQuestion, questions_of}
+use Rattle.prog_paths.specs.Questions.{IsQuestion, questions_of}
 use Rattle.prog_paths.specs.Limits.{most_questions}
 use Rattle.prog_paths.specs.Listing.{IsBefore, IsAtMost, RiseBy}
 use Rattle.robust_cert.specs.declared.certificate.Certificate.{Certificate}

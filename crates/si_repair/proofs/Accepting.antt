@@ -4,7 +4,7 @@ use Rattle.std.proofs.lemmas.Bool.{cases_lt}
 use Rattle.std.specs.Prelude.{slice_index_or, Option, Some, None, IfSome, IfNone}
 use Rattle.prog_check.specs.declared.path.Path.{Path}
 use Rattle.prog_paths.specs.StaticGraph.{StaticEdge, IsDangerous}
-use Rattle.prog_paths.specs.Asked.{questions_of}
+use Rattle.prog_paths.specs.Questions.{questions_of}
 use Rattle.prog_paths.specs.Limits.{most_questions}
 use Rattle.conflict_pairs.specs.Table.{Table, StandsFor}
 use Rattle.dep_graph.proofs.Rising.{level-le, level-lt}

@@ -2,7 +2,7 @@
 use Rattle.std.proofs.Common.{◌≡◌, ◌<◌, ◌≤◌, List, length, sym, subst}
 use Rattle.std.specs.Prelude.{All}
 use Rattle.prog_check.specs.declared.path.Path.{Path}
-use Rattle.prog_paths.specs.Asked.{ChangesSingleCells, questions_of}
+use Rattle.prog_paths.specs.Questions.{ChangesSingleCells, questions_of}
 use Rattle.prog_paths.specs.Limits.{most_questions}
 use Rattle.si_repair.proofs.Accepting.{within}
 

@@ -8,10 +8,10 @@ use Rattle.prog_check.specs.declared.path.Path.{Path}
 use Rattle.prog_check.specs.declared.path.Term.{Term}
 use Rattle.prog_paths.specs.StaticGraph.{Question, IsAccessOf}
 use Rattle.prog_paths.specs.declared.accesses.places.Question.{Question as Asked}
-use Rattle.prog_paths.specs.Asked.{IsQuestion, numbers_of, questions_of}
+use Rattle.prog_paths.specs.Questions.{IsQuestion, numbers_of, questions_of}
 use Rattle.prog_paths.specs.Listing.{IsAskedOf, IsBefore, RiseBy}
 use Rattle.prog_paths.specs.Shown.{ShowEqual, key_pairs}
-use Rattle.prog_paths.specs.Questions.{question_facts}
+use Rattle.prog_paths.specs.Facts.{question_facts}
 use Rattle.prog_paths.proofs.Membership.{law_of_listing}
 use Rattle.prog_paths.proofs.Order.{law_of_order}
 use Rattle.conflict_pairs.specs.declared.verdicts.Verdict.{Verdict}

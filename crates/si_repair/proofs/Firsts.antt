@@ -7,9 +7,9 @@ use Rattle.std.proofs.lemmas.List.Elements.{Contains-append_left, Contains-appen
 use Rattle.prog_check.specs.declared.path.Path.{Path}
 use Rattle.prog_paths.specs.declared.accesses.places.Placed.{Placed}
 use Rattle.prog_paths.specs.declared.accesses.places.Question.{Question as Asked}
-use Rattle.prog_paths.specs.Asked.{asks, numbers_of, question_between, all_from, asked_by, asked_among, questions_of}
+use Rattle.prog_paths.specs.Questions.{asks, numbers_of, question_between, all_from, asked_by, asked_among, questions_of}
 use Rattle.prog_paths.specs.Listing.{IsBefore, RiseBy}
-use Rattle.prog_paths.proofs.Asked.{if_yes, asked_by-append, asked_among-append}
+use Rattle.prog_paths.proofs.Questions.{if_yes, asked_by-append, asked_among-append}
 use Rattle.prog_paths.proofs.Order.{law_of_order}
 use Rattle.repair_laws.specs.declared.plan.Pair.{Pair}
 use Rattle.repair_laws.specs.Keys.{ExposedOf}

@@ -7,7 +7,7 @@ use Rattle.prog_check.specs.declared.path.Path.{Path}
 use Rattle.prog_paths.specs.Meeting.{CanMeet}
 use Rattle.prog_paths.specs.StaticGraph.{Question, AsksOf, AsksReadWrite, StaticEdge, IsExposed, IsVulnerable}
 use Rattle.prog_paths.specs.declared.accesses.places.Question.{Question as Asked}
-use Rattle.prog_paths.specs.Asked.{Asks, numbers_of}
+use Rattle.prog_paths.specs.Questions.{Asks, numbers_of}
 use Rattle.prog_tree.proofs.Elements.{from_mapped}
 use Rattle.prog_paths.proofs.Edges.{HasQuestion-weaker, EdgeOf-weaker, EdgeOf-inside}
 use Rattle.prog_paths.proofs.Membership.{law_of_listing}

@@ -8,7 +8,7 @@ use Rattle.std.proofs.lemmas.List.Elements.{Contains-push_cases, Contains-append
 use Rattle.prog_check.specs.declared.path.Access.{Access}
 use Rattle.prog_check.specs.declared.path.Path.{Path}
 use Rattle.prog_paths.specs.StaticGraph.{IsAccessOf, Question}
-use Rattle.prog_paths.specs.Asked.{numbers_of}
+use Rattle.prog_paths.specs.Questions.{numbers_of}
 use Rattle.prog_paths.specs.declared.accesses.places.Question.{Question as Asked}
 use Rattle.repair_laws.specs.declared.plan.Pair.{Pair}
 use Rattle.repair_laws.specs.Keys.{ExposedOf}

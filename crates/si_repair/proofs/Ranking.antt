@@ -10,12 +10,12 @@ use Rattle.prog_check.specs.declared.path.Access.{Access}
 use Rattle.prog_check.specs.declared.path.Path.{Path}
 use Rattle.prog_paths.specs.Meeting.{IsSingle}
 use Rattle.prog_paths.specs.StaticGraph.{Question, AsksOf}
-use Rattle.prog_paths.specs.Questions.{AreEqualWhereTheyMeet}
+use Rattle.prog_paths.specs.Facts.{AreEqualWhereTheyMeet}
 use Rattle.prog_paths.specs.declared.accesses.places.Placed.{Placed}
 use Rattle.prog_paths.specs.declared.accesses.places.Question.{Question as Asked}
-use Rattle.prog_paths.specs.Asked.{numbers_of, question_between, ChangesSingleCells}
+use Rattle.prog_paths.specs.Questions.{numbers_of, question_between, ChangesSingleCells}
 use Rattle.prog_paths.specs.Places.{IsAt}
-use Rattle.prog_paths.proofs.Questions.{law_of_equal_terms}
+use Rattle.prog_paths.proofs.Facts.{law_of_equal_terms}
 use Rattle.prog_paths.proofs.Shown.{single_at, may_touch-second}
 use Rattle.prog_paths.proofs.Marked.{same_access}
 use Rattle.repair_laws.specs.declared.plan.Pair.{Pair}

@@ -13,7 +13,7 @@ use Rattle.prog_check.specs.declared.path.Column.{Column}
 use Rattle.prog_check.specs.declared.path.Access.{Access}
 use Rattle.prog_check.specs.declared.path.Path.{Path}
 use Rattle.prog_paths.specs.Few.{IsTermBelow, IsColumnBelow, IsAccessBelow, AreFew}
-use Rattle.prog_paths.specs.Questions.{mine_node, their_node, column_facts, column_or_zero, second_facts, question_facts}
+use Rattle.prog_paths.specs.Facts.{mine_node, their_node, column_facts, column_or_zero, second_facts, question_facts}
 use Rattle.prog_paths.specs.Shown.{Falls, Runs, ShowEqual, second_pair, key_pairs}
 use Rattle.prog_paths.specs.StaticGraph.{IsAccessOf}
 use Rattle.robust_cert.specs.Ranges.{IsOfSmall}

@@ -4,7 +4,7 @@ use Rattle.prog_check.specs.declared.path.Path.{Path}
 use Rattle.prog_paths.specs.StaticGraph.{AsksReadWrite, IsExposed}
 use Rattle.prog_paths.specs.declared.accesses.places.Placed.{Placed}
 use Rattle.prog_paths.specs.declared.accesses.places.Question.{Question as Asked}
-use Rattle.prog_paths.specs.Asked.{all_from, numbers_of, question_between, asked_among, questions_of}
+use Rattle.prog_paths.specs.Questions.{all_from, numbers_of, question_between, asked_among, questions_of}
 use Rattle.prog_paths.specs.Listing.{IsBefore}
 use Rattle.prog_paths.specs.Places.{IsAt}
 use Rattle.conflict_pairs.specs.Alike.{HasAccess}

@@ -7,8 +7,8 @@ use Rattle.prog_check.specs.Paths.{paths_of}
 use Rattle.prog_paths.specs.Meeting.{CanMeet}
 use Rattle.prog_paths.specs.StaticGraph.{AsksOf, AsksReadWrite, IsCovered, StaticEdge, Leads}
 use Rattle.prog_paths.specs.StaticGraph as graph
-use Rattle.prog_paths.specs.Questions.{question_facts}
-use Rattle.prog_paths.specs.Asked.{IsQuestion, questions_of}
+use Rattle.prog_paths.specs.Facts.{question_facts}
+use Rattle.prog_paths.specs.Questions.{IsQuestion, questions_of}
 use Rattle.prog_paths.specs.Limits.{most_questions}
 use Rattle.conflict_pairs.specs.Verdicts.{FallsShortest, IsShortest, IsLeastCover}
 use Rattle.dep_graph.specs.Counting.{IsCountOf}

@@ -6,11 +6,11 @@ use Rattle.order_facts.specs.Chain.{ForcesEqual}
 use Rattle.prog_check.specs.declared.path.Term.TheVariants.{Param}
 use Rattle.prog_check.specs.declared.path.Access.{Access}
 use Rattle.prog_check.specs.declared.path.Path.{Path}
-use Rattle.prog_paths.specs.Questions.{question_facts, AreEqualWhereTheyMeet}
+use Rattle.prog_paths.specs.Facts.{question_facts, AreEqualWhereTheyMeet}
 use Rattle.prog_paths.specs.StaticGraph.{AsksOf, AsksReadWrite}
 use Rattle.prog_paths.specs.declared.accesses.places.Placed.{Placed}
 use Rattle.prog_paths.specs.declared.accesses.places.Question.{Question as Asked}
-use Rattle.prog_paths.specs.Asked.{numbers_of}
+use Rattle.prog_paths.specs.Questions.{numbers_of}
 use Rattle.si_repair.specs.Exposed.{AreExposedAmong}
 
 -- the two accesses are those of a question whose first may miss what its second changes

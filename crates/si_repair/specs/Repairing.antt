@@ -2,7 +2,7 @@
 use Rattle.std.specs.Prelude.{◌≡◌, ℕ, ◌<◌, List, length, Some, slice_get}
 use Rattle.prog_tree.specs.Syntax.{DraftTree}
 use Rattle.prog_check.specs.Paths.{paths_of}
-use Rattle.prog_paths.specs.Asked.{questions_of}
+use Rattle.prog_paths.specs.Questions.{questions_of}
 use Rattle.prog_paths.specs.StaticGraph.{IsDangerous}
 use Rattle.repair_laws.specs.declared.plan.Pair.{Pair}
 use Rattle.repair_laws.specs.Meaning.{KeepsAllMeaning}

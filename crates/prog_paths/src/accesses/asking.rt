@@ -1,6 +1,6 @@
 //! What the kinds of two accesses ask.
 ghost use Rattle.std.specs.Prelude.{◌≡◌, ◌↔◌, IsTrue};
-ghost use Rattle.prog_paths.specs.Asked.{asks_read_write, asks_write_read, both_write};
+ghost use Rattle.prog_paths.specs.Questions.{asks_read_write, asks_write_read, both_write};
 ghost use Rattle.prog_paths.specs.Meeting.{MayTouch, MayCover};
 ghost use Rattle.prog_paths.specs.StaticGraph.{Question, AsksReadWrite};
 

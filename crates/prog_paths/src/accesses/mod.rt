@@ -3,7 +3,7 @@
 pub mod asking;
 pub mod changers;
 pub mod count;
+pub mod facts;
 pub mod mark;
 pub mod places;
-pub mod question;
 mod tally;

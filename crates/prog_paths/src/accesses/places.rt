@@ -1,6 +1,6 @@
 //! Accesses at their places, and what two of them ask.
 ghost use Rattle.std.specs.Prelude.{◌≡◌, ◌++◌, IfOk, OnOk};
-ghost use Rattle.prog_paths.specs.Asked.{kinds_depend, is_in_order, asks, question_between, placed_from, all_from, accesses_by, program_from};
+ghost use Rattle.prog_paths.specs.Questions.{kinds_depend, is_in_order, asks, question_between, placed_from, all_from, accesses_by, program_from};
 
 use crate::accesses::asking::{asks_read_write, asks_write_read, both_write};
 use prog_check::{Access, Kind, Path};

@@ -2,9 +2,9 @@
 ghost use Rattle.std.specs.Prelude.{◌≡◌, ◌↔◌, ◌*◌, ℕ, length, IsTrue, OnOk, IfErr, IfSome, IfNone};
 ghost use Rattle.prog_check.specs.declared.path.Access.{Access};
 ghost use Rattle.prog_paths.specs.StaticGraph.{IsAccessOf};
-ghost use Rattle.prog_paths.specs.Asked.{IsQuestion};
+ghost use Rattle.prog_paths.specs.Questions.{IsQuestion};
 ghost use Rattle.prog_paths.specs.Kinds.{items_of};
-ghost use Rattle.prog_paths.specs.Questions.{mine_node, their_node};
+ghost use Rattle.prog_paths.specs.Facts.{mine_node, their_node};
 ghost use Rattle.prog_paths.specs.Shown.{Runs, key_pairs, ShowEqual};
 ghost use Rattle.robust_cert.specs.Accepted.{numbers_told, IsFitting, ChainsHold};
 ghost use Rattle.robust_cert.specs.Sharing.{entry_with};

@@ -1,6 +1,6 @@
 //! The edges that the entries leave.
 ghost use Rattle.std.specs.Prelude.{◌≡◌, [], ◌∷◌, IfOk, OnOk};
-ghost use Rattle.prog_paths.specs.Asked.{asked_by, asked_among};
+ghost use Rattle.prog_paths.specs.Questions.{asked_by, asked_among};
 ghost use Rattle.prog_paths.specs.Listing.{RiseBy};
 ghost use Rattle.order_facts.specs.Square.{Enters};
 ghost use Rattle.robust_cert.specs.Accepted.{question_of};

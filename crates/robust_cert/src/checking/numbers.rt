@@ -42,7 +42,7 @@ impl From<EntryQuestion> for Numbers {
 /// Those of a question of the paths.
 impl From<Question> for Numbers {
     ghost use Rattle.std.specs.Prelude.{◌≡◌};
-    ghost use Rattle.prog_paths.specs.Asked.{numbers_of};
+    ghost use Rattle.prog_paths.specs.Questions.{numbers_of};
     ghost use Rattle.robust_cert.specs.Telling.{question_with};
 
     ghost from_gives = { λ question numbers. question_with numbers ≡ numbers_of question };

@@ -1,6 +1,6 @@
 //! The exposed questions of a pair of programs.
 ghost use Rattle.std.specs.Prelude.{◌↔◌, [], ◌∷◌, All, IfOk, IsTrue};
-ghost use Rattle.prog_paths.specs.Asked.{ChangesSingleCells, numbers_of, question_between};
+ghost use Rattle.prog_paths.specs.Questions.{ChangesSingleCells, numbers_of, question_between};
 ghost use Rattle.prog_paths.specs.Places.{IsAt};
 ghost use Rattle.prog_paths.specs.StaticGraph.{IsAccessOf};
 ghost use Rattle.conflict_pairs.specs.Verdicts.{TellsExposed};

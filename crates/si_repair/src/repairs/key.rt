@@ -1,6 +1,6 @@
 //! The key under which the two programs of a pair meet.
 ghost use Rattle.std.specs.Prelude.{◌≡◌, ◌↔◌, ◌++◌, ℕ, List, All, IfOk, OnOk, IsTrue};
-ghost use Rattle.prog_paths.specs.Asked.{ChangesSingleCells};
+ghost use Rattle.prog_paths.specs.Questions.{ChangesSingleCells};
 ghost use Rattle.prog_paths.specs.Places.{IsAt};
 ghost use Rattle.prog_paths.specs.declared.accesses.places.Question.{Question as Asked};
 ghost use Rattle.repair_laws.specs.Keys.{IsKeyOf};

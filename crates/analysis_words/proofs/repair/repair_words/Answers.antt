@@ -3,7 +3,7 @@ use Rattle.std.specs.Prelude.{All}
 use Rattle.std.proofs.lemmas.List.{take_all}
 use Rattle.prog_tree.specs.Tree.{draft_tree}
 use Rattle.prog_tree.specs.declared.program.Draft.{Draft}
-use Rattle.prog_paths.specs.Asked.{ChangesSingleCells}
+use Rattle.prog_paths.specs.Questions.{ChangesSingleCells}
 use Rattle.prog_paths.proofs.SingleCells.{law_of_single_changes}
 use Rattle.repair_laws.specs.declared.plan.Pair.{Pair}
 use Rattle.analysis_words.specs.Nodes.{Sight}

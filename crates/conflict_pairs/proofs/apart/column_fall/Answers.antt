@@ -1,6 +1,6 @@
 use Rattle.std.proofs.Common.{inl, inr, sym}
 use Rattle.std.proofs.lemmas.Option.{IfSome_then}
-use Rattle.prog_paths.specs.Questions.{column_facts}
+use Rattle.prog_paths.specs.Facts.{column_facts}
 use Rattle.conflict_pairs.proofs.Falling.{FallsAtOnce-two}
 use Rattle.conflict_pairs.proofs.apart.column_fall.Goals as goal
 

@@ -1,5 +1,5 @@
 use Rattle.std.proofs.lemmas.Option.{IfSome_then}
-use Rattle.prog_paths.specs.Questions.{column_facts, second_facts}
+use Rattle.prog_paths.specs.Facts.{column_facts, second_facts}
 use Rattle.conflict_pairs.proofs.Falling.{FallsAtOnce-left, FallsAtOnce-right, none_fall}
 use Rattle.conflict_pairs.proofs.Trimming.{FallsShortest-at_once}
 use Rattle.conflict_pairs.proofs.apart.number_fall.Goals as goal

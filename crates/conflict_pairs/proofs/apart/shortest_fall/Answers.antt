@@ -1,7 +1,7 @@
 use Rattle.std.proofs.Common.{◌≡◌, [], ◌∷◌, length, ap, ◌∙◌}
 use Rattle.order_facts.specs.Chain.{HasContradiction}
 use Rattle.prog_check.specs.declared.path.Column.{Column}
-use Rattle.prog_paths.specs.Questions.{mine_node, their_node}
+use Rattle.prog_paths.specs.Facts.{mine_node, their_node}
 use Rattle.conflict_pairs.specs.Search.{FoundWithin}
 use Rattle.conflict_pairs.proofs.Falling.{lower_nodes, upper_nodes, found_for}
 use Rattle.conflict_pairs.proofs.Meaning.{IfOk_then}

@@ -1,4 +1,4 @@
-use Rattle.prog_paths.specs.Asked.{two, between}
+use Rattle.prog_paths.specs.Questions.{two, between}
 use Rattle.conflict_pairs.specs.Verdicts.{TellsExposed}
 use Rattle.conflict_pairs.proofs.Meaning.{IfOk_then, TellsExposed-from_lists, HasFall-from_lists}
 use Rattle.conflict_pairs.proofs.judge.is_exposed_question.Goals as goal

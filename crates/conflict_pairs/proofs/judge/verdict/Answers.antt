@@ -1,5 +1,5 @@
 use Rattle.conflict_pairs.proofs.Meaning.{IsRight-from_lists, IfOk_then, HasFall-from_lists}
-use Rattle.prog_paths.specs.Asked.{two, between}
+use Rattle.prog_paths.specs.Questions.{two, between}
 use Rattle.conflict_pairs.specs.Verdicts.{IsRight}
 use Rattle.conflict_pairs.proofs.judge.verdict.Goals as goal
 

@@ -1,6 +1,6 @@
 use Rattle.std.proofs.Common.{List, sym, subst, arith}
 use Rattle.std.specs.Prelude.{All}
-use Rattle.prog_paths.specs.Asked.{asked_among}
+use Rattle.prog_paths.specs.Questions.{asked_among}
 use Rattle.conflict_pairs.specs.declared.pairing.PlacePair.{PlacePair}
 use Rattle.conflict_pairs.specs.Pairing.{HasPlaces, questions_at}
 use Rattle.conflict_pairs.proofs.Entries.{among_changers-more, among-end}

@@ -1,6 +1,6 @@
 use Rattle.std.proofs.Common.{◌≡◌, ◌++◌, drop}
 use Rattle.std.specs.Prelude.{All}
-use Rattle.prog_paths.specs.Asked.{asked_among}
+use Rattle.prog_paths.specs.Questions.{asked_among}
 use Rattle.conflict_pairs.specs.Pairing.{HasPlaces, questions_at}
 use Rattle.conflict_pairs.proofs.listing.all_questions.Given as goal
 

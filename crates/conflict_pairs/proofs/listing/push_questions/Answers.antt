@@ -1,7 +1,7 @@
 use Rattle.std.proofs.Common.{◌∙◌, ◌++◌, ◌<◌, List, Vec, Global, length, vec_len, vec_capacity, ap, sym, subst, arith}
 use Rattle.std.specs.Prelude.{All}
 use Rattle.std.proofs.lemmas.List.Elements.{All-push}
-use Rattle.prog_paths.specs.Asked.{asked_by}
+use Rattle.prog_paths.specs.Questions.{asked_by}
 use Rattle.conflict_pairs.specs.declared.pairing.PlacePair.{PlacePair}
 use Rattle.conflict_pairs.specs.Pairing.{HasPlaces, question_at, questions_at}
 use Rattle.conflict_pairs.proofs.Entries.{asked-end, asked-yes, asked-no}

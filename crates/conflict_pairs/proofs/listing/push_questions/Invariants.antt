@@ -1,6 +1,6 @@
 use Rattle.std.proofs.Common.{◌≡◌, ◌≤◌, ◌+◌, ◌++◌, drop, length, vec_len, vec_capacity}
 use Rattle.std.specs.Prelude.{All}
-use Rattle.prog_paths.specs.Asked.{asked_by}
+use Rattle.prog_paths.specs.Questions.{asked_by}
 use Rattle.conflict_pairs.specs.Pairing.{HasPlaces, questions_at}
 use Rattle.conflict_pairs.proofs.listing.push_questions.Given as goal
 

@@ -2,7 +2,7 @@ use Rattle.std.proofs.Common.{◌≡◌, List, ℕ, sym, subst, ◌∙◌}
 use Rattle.std.specs.Prelude.{All}
 use Rattle.prog_check.specs.declared.path.Path.{Path}
 use Rattle.prog_paths.specs.declared.accesses.places.Placed.{Placed}
-use Rattle.prog_paths.specs.Asked.{asked_among}
+use Rattle.prog_paths.specs.Questions.{asked_among}
 use Rattle.conflict_pairs.specs.declared.pairing.PlacePair.{PlacePair}
 use Rattle.conflict_pairs.specs.Alike.{AreShown, IsLike}
 use Rattle.conflict_pairs.specs.Interning.{AreInterned}

@@ -1,4 +1,4 @@
-use Rattle.prog_paths.proofs.Questions.{law_of_meeting, law_of_questions, law_of_equal_terms}
+use Rattle.prog_paths.proofs.Facts.{law_of_meeting, law_of_questions, law_of_equal_terms}
 use Rattle.prog_paths.proofs.SingleCells.{law_of_single_cells}
 use Rattle.prog_paths.proofs.laws.law_of_questions.Goals as goal
 

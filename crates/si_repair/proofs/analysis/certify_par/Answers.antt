@@ -2,7 +2,7 @@ use Rattle.std.proofs.Common.{List, length, ◌≤◌, sym, subst, ◌∙◌}
 use Rattle.prog_tree.specs.Tree.{draft_tree}
 use Rattle.prog_check.specs.declared.path.Path.{Path}
 use Rattle.prog_check.specs.Paths.{paths_of}
-use Rattle.prog_paths.specs.Asked.{questions_of}
+use Rattle.prog_paths.specs.Questions.{questions_of}
 use Rattle.prog_paths.specs.Limits.{most_questions}
 use Rattle.prog_paths.specs.Few.{AreFew}
 use Rattle.prog_paths.proofs.SingleCells.{law_of_single_changes}

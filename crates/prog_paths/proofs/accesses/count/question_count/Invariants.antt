@@ -1,5 +1,5 @@
 use Rattle.std.proofs.Common.{◌≡◌, ◌+◌, min, length}
-use Rattle.prog_paths.specs.Asked.{all_from, asked_among}
+use Rattle.prog_paths.specs.Questions.{all_from, asked_among}
 use Rattle.prog_paths.specs.Limits.{most_questions}
 use Rattle.prog_paths.proofs.Walked.{before, left}
 use Rattle.prog_paths.proofs.accesses.count.question_count.Given as goal

@@ -1,6 +1,6 @@
 use Rattle.std.proofs.Common.{◌++◌, ◌∙◌, ap, arith}
-use Rattle.prog_paths.specs.Asked.{all_from, placed_from}
-use Rattle.prog_paths.proofs.Asked.{all-more, all-end}
+use Rattle.prog_paths.specs.Questions.{all_from, placed_from}
+use Rattle.prog_paths.proofs.Questions.{all-more, all-end}
 use Rattle.prog_paths.proofs.accesses.places.all_places.Goals as goal
 
 pub loop-node-preserved : goal.loop-node-preserved

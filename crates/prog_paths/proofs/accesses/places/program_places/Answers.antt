@@ -1,6 +1,6 @@
 use Rattle.std.proofs.Common.{◌++◌, ◌∙◌, ap, arith}
-use Rattle.prog_paths.specs.Asked.{placed_from, program_from}
-use Rattle.prog_paths.proofs.Asked.{program-more, program-end}
+use Rattle.prog_paths.specs.Questions.{placed_from, program_from}
+use Rattle.prog_paths.proofs.Questions.{program-more, program-end}
 use Rattle.prog_paths.proofs.accesses.places.program_places.Goals as goal
 
 pub loop-node-preserved : goal.loop-node-preserved

@@ -1,6 +1,6 @@
 use Rattle.std.proofs.Common.{◌++◌, arith}
-use Rattle.prog_paths.specs.Asked.{placed_from}
-use Rattle.prog_paths.proofs.Asked.{placed-more, placed-end}
+use Rattle.prog_paths.specs.Questions.{placed_from}
+use Rattle.prog_paths.proofs.Questions.{placed-more, placed-end}
 use Rattle.prog_paths.proofs.accesses.places.push_node.Goals as goal
 
 pub loop-number-preserved : goal.loop-number-preserved

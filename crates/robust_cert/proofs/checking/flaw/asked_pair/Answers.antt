@@ -1,4 +1,4 @@
-use Rattle.prog_paths.specs.Asked.{IsQuestion}
+use Rattle.prog_paths.specs.Questions.{IsQuestion}
 use Rattle.robust_cert.specs.Telling.{question_with}
 use Rattle.robust_cert.proofs.checking.flaw.asked_pair.Goals as goal
 

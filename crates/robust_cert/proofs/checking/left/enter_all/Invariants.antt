@@ -1,5 +1,5 @@
 use Rattle.std.proofs.Common.{take}
-use Rattle.prog_paths.specs.Asked.{asked_among}
+use Rattle.prog_paths.specs.Questions.{asked_among}
 use Rattle.robust_cert.specs.Leaving.{Passes}
 use Rattle.robust_cert.proofs.checking.left.enter_all.Given as goal
 

@@ -1,5 +1,5 @@
 use Rattle.std.proofs.Common.{take}
-use Rattle.prog_paths.specs.Asked.{asked_by}
+use Rattle.prog_paths.specs.Questions.{asked_by}
 use Rattle.robust_cert.specs.Leaving.{Passes}
 use Rattle.robust_cert.proofs.checking.left.enter_asked.Given as goal
 

@@ -3,8 +3,8 @@ use Rattle.std.specs.Prelude.{All}
 use Rattle.std.proofs.lemmas.List.Elements.{All-head}
 use Rattle.prog_paths.specs.StaticGraph.{Question}
 use Rattle.prog_paths.specs.declared.accesses.places.Question.{Question as Asked}
-use Rattle.prog_paths.specs.Asked.{asks, question_between, numbers_of}
-use Rattle.prog_paths.proofs.Asked.{if_yes}
+use Rattle.prog_paths.specs.Questions.{asks, question_between, numbers_of}
+use Rattle.prog_paths.proofs.Questions.{if_yes}
 use Rattle.robust_cert.specs.Telling.{question_with, telling_of, IsBehind, mark_with}
 use Rattle.robust_cert.specs.Leaving.{Passes}
 use Rattle.robust_cert.proofs.Passing.{Passes-one}

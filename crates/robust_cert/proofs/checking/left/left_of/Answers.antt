@@ -1,6 +1,6 @@
 use Rattle.std.proofs.Common.{List, sym, subst, ◌∙◌}
 use Rattle.prog_paths.specs.declared.accesses.places.Placed.{Placed}
-use Rattle.prog_paths.specs.Asked.{asked_among}
+use Rattle.prog_paths.specs.Questions.{asked_among}
 use Rattle.order_facts.specs.Square.{Enters}
 use Rattle.robust_cert.specs.Leaving.{some_edge, some_vulnerable, IsReady}
 use Rattle.robust_cert.proofs.Passing.{all-ready, leaves-from_enters}

@@ -5,7 +5,7 @@ use Rattle.prog_tree.specs.declared.program.Draft.{Draft}
 use Rattle.prog_tree.specs.Tree.{draft_tree, program_tree}
 use Rattle.prog_check.specs.declared.path.Path.{Path}
 use Rattle.prog_check.specs.Paths.{paths_of}
-use Rattle.prog_paths.specs.Asked.{ChangesSingleCells}
+use Rattle.prog_paths.specs.Questions.{ChangesSingleCells}
 use Rattle.prog_paths.proofs.SingleCells.{law_of_single_changes}
 use Rattle.repair_laws.specs.declared.plan.Pair.{Pair}
 use Rattle.repair_laws.specs.Plans.{IsPlan}

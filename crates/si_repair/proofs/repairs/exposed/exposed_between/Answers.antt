@@ -1,4 +1,4 @@
-use Rattle.prog_paths.specs.Asked.{numbers_of, question_between}
+use Rattle.prog_paths.specs.Questions.{numbers_of, question_between}
 use Rattle.conflict_pairs.specs.Verdicts.{TellsExposed}
 use Rattle.conflict_pairs.proofs.Meaning.{IfOk_then}
 use Rattle.conflict_pairs.proofs.Moving.{TellsExposed-placed}

@@ -2,7 +2,7 @@ use Rattle.std.proofs.Common.{Bool, List, ◌∙◌, refl, sym, subst}
 use Rattle.std.specs.Prelude.{All, slice_get}
 use Rattle.prog_tree.specs.Tree.{draft_tree}
 use Rattle.prog_check.specs.declared.path.Path.{Path}
-use Rattle.prog_paths.specs.Asked.{ChangesSingleCells}
+use Rattle.prog_paths.specs.Questions.{ChangesSingleCells}
 use Rattle.prog_paths.specs.declared.accesses.places.Question.{Question}
 use Rattle.prog_paths.proofs.SingleCells.{law_of_single_changes}
 use Rattle.repair_laws.specs.Refusals.{IsRangeAt}

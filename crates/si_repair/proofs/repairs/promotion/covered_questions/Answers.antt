@@ -1,7 +1,7 @@
 use Rattle.std.proofs.Common.{List, All, sym, subst}
 use Rattle.prog_tree.specs.Tree.{draft_tree}
 use Rattle.prog_check.specs.declared.path.Path.{Path}
-use Rattle.prog_paths.specs.Asked.{ChangesSingleCells}
+use Rattle.prog_paths.specs.Questions.{ChangesSingleCells}
 use Rattle.prog_paths.proofs.SingleCells.{law_of_single_changes}
 use Rattle.si_repair.proofs.repairs.promotion.covered_questions.Goals as goal
 

@@ -1,7 +1,7 @@
 //! The facts of a question.
 ghost use Rattle.std.specs.Prelude.{◌≡◌, ◌∷◌, [], IfOk};
 ghost use Rattle.prog_paths.specs.Kinds.{items_of};
-ghost use Rattle.prog_paths.specs.Questions.{mine_node, their_node, column_facts, column_or_zero, question_facts};
+ghost use Rattle.prog_paths.specs.Facts.{mine_node, their_node, column_facts, column_or_zero, question_facts};
 ghost use Rattle.prog_paths.specs.Shown.{second_pair};
 
 use order_facts::{Closed, Fact, Node};
