@@ -6,7 +6,7 @@ use Rattle.std.specs.List.{AllZip}
 use Rattle.std.proofs.lemmas.List.Elements.{All-nil, All-cons, All-head, All-tail, All-append}
 use Rattle.prog_check.specs.declared.path.Path.{Path}
 use Rattle.prog_paths.specs.declared.accesses.places.Placed.{Placed}
-use Rattle.prog_paths.specs.declared.accesses.places.Question.{Question as Asked}
+use Rattle.prog_paths.specs.declared.accesses.places.Question.{Question}
 use Rattle.prog_paths.specs.Questions.{asks, question_between, all_from, asked_by, asked_among, questions_of}
 use Rattle.prog_paths.specs.Places.{IsAt}
 use Rattle.prog_paths.proofs.Questions.{all_places_stand}
@@ -15,7 +15,7 @@ use Rattle.conflict_pairs.specs.Alike.{IsAsked}
 -- ---- each question of the list is asked
 
 module _ (paths : List Path) where
-  with_asked : (first second : Placed) (rest : List Asked) (b : Bool) → asks first second ≡ b → IsAt paths first → IsAt paths second → All (IsAsked paths) rest → All (IsAsked paths) (if b then question_between first second ∷ rest else rest)
+  with_asked : (first second : Placed) (rest : List Question) (b : Bool) → asks first second ≡ b → IsAt paths first → IsAt paths second → All (IsAsked paths) rest → All (IsAsked paths) (if b then question_between first second ∷ rest else rest)
   with_asked first second rest true e at_first at_second h =
       All-cons (IsAsked paths) (question_between first second) rest (record { first = first; second = second; at_first = at_first; at_second = at_second; asks_it = e; is = refl }) h
   with_asked first second rest false e at_first at_second h = h

@@ -5,13 +5,13 @@ use Rattle.std.specs.Prelude.{List}
 use Rattle.std.proofs.Common.{refl}
 use Rattle.std.proofs.lemmas.Bool.{false≢true, true≢false}
 use Rattle.prog_paths.specs.Meeting.{CanMeet}
-use Rattle.prog_paths.specs.StaticGraph.{Question}
+use Rattle.prog_paths.specs.StaticGraph.{QuestionNumbers}
 use Rattle.conflict_pairs.specs.declared.verdicts.Verdict.{Verdict}
 use Rattle.conflict_pairs.specs.declared.verdicts.Verdict.TheVariants.{Apart, Covered, Exposed}
 use Rattle.conflict_pairs.specs.Verdicts.{mine_of, theirs_of, IsRightOf}
 use Rattle.conflict_pairs.specs.Law.{IsExact, LawOfVerdicts}
 
-exact : (nodes : List Path) (q : Question) (mine theirs : Access) (v : Verdict) → IsRightOf nodes q mine theirs v → IsExact nodes q mine theirs v
+exact : (nodes : List Path) (q : QuestionNumbers) (mine theirs : Access) (v : Verdict) → IsRightOf nodes q mine theirs v → IsExact nodes q mine theirs v
 exact nodes q mine theirs (Apart chain) h = record {
   apart = (λ _. h.0, λ _. refl);
   covered = (λ u. absurd u, λ t. absurd (h.0 t.1));

@@ -8,7 +8,7 @@ use Rattle.order_facts.specs.declared.steps.Node.{Node}
 use Rattle.order_facts.specs.declared.steps.Fact.{Fact}
 use Rattle.prog_check.specs.declared.path.Access.{Access}
 use Rattle.prog_check.specs.declared.path.Path.{Path}
-use Rattle.prog_paths.specs.declared.accesses.places.Question.{Question as Asked}
+use Rattle.prog_paths.specs.declared.accesses.places.Question.{Question}
 use Rattle.prog_paths.specs.declared.accesses.places.Placed.{Placed}
 use Rattle.prog_paths.specs.Meeting.{MayCover}
 use Rattle.prog_paths.specs.Places.{AreAlike, IsAt}
@@ -147,12 +147,12 @@ like_at-classes paths classes p q classed at_p at_q h = record {
 
 -- ---- what is asked
 
-module _ (paths : List Path) (q : Asked) (asked : IsAsked paths q) where
+module _ (paths : List Path) (q : Question) (asked : IsAsked paths q) where
   pub access-first : IsAccessOf paths q.x q.a asked.first.access
-  access-first = (asked.at_first.0, ap (λ (r : Asked). slice_get paths r.x) asked.is ∙ asked.at_first.1, ap (λ (r : Asked). slice_get asked.at_first.0.accesses r.a) asked.is ∙ asked.at_first.2)
+  access-first = (asked.at_first.0, ap (λ (r : Question). slice_get paths r.x) asked.is ∙ asked.at_first.1, ap (λ (r : Question). slice_get asked.at_first.0.accesses r.a) asked.is ∙ asked.at_first.2)
 
   pub access-second : IsAccessOf paths q.y q.b asked.second.access
-  access-second = (asked.at_second.0, ap (λ (r : Asked). slice_get paths r.y) asked.is ∙ asked.at_second.1, ap (λ (r : Asked). slice_get asked.at_second.0.accesses r.b) asked.is ∙ asked.at_second.2)
+  access-second = (asked.at_second.0, ap (λ (r : Question). slice_get paths r.y) asked.is ∙ asked.at_second.1, ap (λ (r : Question). slice_get asked.at_second.0.accesses r.b) asked.is ∙ asked.at_second.2)
 
   pub has-first : HasAccess paths q.x q.a
   has-first = (asked.first.access, access-first)
@@ -207,7 +207,7 @@ judged-alike xs ys a b c d v e f h =
     (subst (λ (z : Access). IsJudged xs ys z (unplaced d) v) (same_but_place a c e) (subst (λ (z : Access). IsJudged xs ys (unplaced a) z v) (same_but_place b d f) (judged-unplaced xs ys a b v h)))
 
 -- what is said of a question is said of one that is like it
-pub judged-like : (paths : List Path) (q r : Asked) (v : Verdict) → IsLike paths q r → IsJudgedAt paths r v → IsJudgedAt paths q v
+pub judged-like : (paths : List Path) (q r : Question) (v : Verdict) → IsLike paths q r → IsJudgedAt paths r v → IsJudgedAt paths q v
 judged-like paths q r v like h mine theirs at_mine at_theirs =
     let first = like.0 in
     let second = like.1 in
@@ -221,7 +221,7 @@ judged-like paths q r v like h mine theirs at_mine at_theirs =
     (h first.other second.other first.at_other second.at_other))))
 
 -- what is said of a question's accesses is right of it
-pub right-judged : (paths : List Path) (q : Asked) → All ChangesSingleCells paths → IsAsked paths q → (v : Verdict) → IsJudgedAt paths q v → IsRight paths (numbers_of q) v
+pub right-judged : (paths : List Path) (q : Question) → All ChangesSingleCells paths → IsAsked paths q → (v : Verdict) → IsJudgedAt paths q v → IsRight paths (numbers_of q) v
 unfolding access-first access-second
 right-judged paths q single asked v h =
     IsRight-asked paths q asked x y is_x is_y v
@@ -235,10 +235,10 @@ right-judged paths q single asked v h =
     y = asked.at_second.0
 
     is_x : x ≡ get_or paths q.x x
-    is_x = sym (ap (λ (r : Asked). get_or paths r.x x) asked.is ∙ get_or_from_slice_get paths asked.first.node x x asked.at_first.1)
+    is_x = sym (ap (λ (r : Question). get_or paths r.x x) asked.is ∙ get_or_from_slice_get paths asked.first.node x x asked.at_first.1)
 
     is_y : y ≡ get_or paths q.y y
-    is_y = sym (ap (λ (r : Asked). get_or paths r.y y) asked.is ∙ get_or_from_slice_get paths asked.second.node y y asked.at_second.1)
+    is_y = sym (ap (λ (r : Question). get_or paths r.y y) asked.is ∙ get_or_from_slice_get paths asked.second.node y y asked.at_second.1)
 
     first : IsAccessOf paths q.x q.a asked.first.access
     first = access-first paths q asked

@@ -8,9 +8,9 @@ use Rattle.prog_check.specs.declared.path.Kind.{Kind}
 use Rattle.prog_check.specs.declared.path.Kind.TheVariants.{Writes}
 use Rattle.prog_check.specs.declared.path.Access.{Access}
 use Rattle.prog_check.specs.declared.path.Path.{Path}
-use Rattle.prog_paths.specs.StaticGraph.{Question, IsAccessOf, IsCovered}
+use Rattle.prog_paths.specs.StaticGraph.{QuestionNumbers, IsAccessOf, IsCovered}
 use Rattle.prog_paths.specs.declared.accesses.places.Placed.{Placed}
-use Rattle.prog_paths.specs.declared.accesses.places.Question.{Question as Asked}
+use Rattle.prog_paths.specs.declared.accesses.places.Question.{Question}
 use Rattle.conflict_pairs.specs.declared.verdicts.Verdict.{Verdict}
 use Rattle.conflict_pairs.specs.declared.verdicts.Verdict.TheVariants.{Apart, Covered, Exposed}
 use Rattle.prog_paths.specs.Questions.{Asks, IsQuestion, ChangesSingleCells, two, between, asks, kinds_depend, both_write, is_in_order, numbers_of}
@@ -82,7 +82,7 @@ cover_moved xs ys i j k l x y at_i at_j at_k at_l mine theirs h = record {
 -- ---- the verdict
 
 module _ (paths : List Path) (x y : Path) (i a j b : ℕ) (at_x : slice_get paths i ≡ Some x) (at_y : slice_get paths j ≡ Some y) where
-  abbrev here : Question
+  abbrev here : QuestionNumbers
   here = record { x = i; a = a; y = j; b = b }
 
   cover_there : (mine theirs : Access) → IsCovered (two x y) 0 1 mine theirs → IsCovered paths i j mine theirs
@@ -136,28 +136,28 @@ IsRight-placed paths first second x y at_first at_second is_x is_y v h =
 
 -- ---- the same of a question that is asked
 
-module _ (paths : List Path) (q : Asked) (asked : IsAsked paths q) where
+module _ (paths : List Path) (q : Question) (asked : IsAsked paths q) where
   pub first_node_within : q.x < length paths
-  first_node_within = subst (λ (r : Asked). r.x < length paths) (sym asked.is) (node_within paths asked.first asked.at_first)
+  first_node_within = subst (λ (r : Question). r.x < length paths) (sym asked.is) (node_within paths asked.first asked.at_first)
 
   pub second_node_within : q.y < length paths
-  second_node_within = subst (λ (r : Asked). r.y < length paths) (sym asked.is) (node_within paths asked.second asked.at_second)
+  second_node_within = subst (λ (r : Question). r.y < length paths) (sym asked.is) (node_within paths asked.second asked.at_second)
 
   pub single-first : (path : Path) → All ChangesSingleCells paths → path ≡ get_or paths q.x path → ChangesSingleCells path
-  single-first path h is = single_of paths asked.first path h asked.at_first (is ∙ ap (λ (r : Asked). get_or paths r.x path) asked.is)
+  single-first path h is = single_of paths asked.first path h asked.at_first (is ∙ ap (λ (r : Question). get_or paths r.x path) asked.is)
 
   pub single-second : (path : Path) → All ChangesSingleCells paths → path ≡ get_or paths q.y path → ChangesSingleCells path
-  single-second path h is = single_of paths asked.second path h asked.at_second (is ∙ ap (λ (r : Asked). get_or paths r.y path) asked.is)
+  single-second path h is = single_of paths asked.second path h asked.at_second (is ∙ ap (λ (r : Question). get_or paths r.y path) asked.is)
 
   pub IsQuestion-asked : (x y : Path) → x ≡ get_or paths q.x x → y ≡ get_or paths q.y y → IsQuestion (two x y) (between q.a q.b)
   IsQuestion-asked x y is_x is_y =
-      subst (λ (r : Asked). IsQuestion (two x y) (between r.a r.b)) (sym asked.is)
+      subst (λ (r : Question). IsQuestion (two x y) (between r.a r.b)) (sym asked.is)
       (IsQuestion-between paths asked.first asked.second x y asked.at_first asked.at_second asked.asks_it
-      (is_x ∙ ap (λ (r : Asked). get_or paths r.x x) asked.is) (is_y ∙ ap (λ (r : Asked). get_or paths r.y y) asked.is))
+      (is_x ∙ ap (λ (r : Question). get_or paths r.x x) asked.is) (is_y ∙ ap (λ (r : Question). get_or paths r.y y) asked.is))
 
   pub IsRight-asked : (x y : Path) → x ≡ get_or paths q.x x → y ≡ get_or paths q.y y → (v : Verdict) → IsRight (two x y) (between q.a q.b) v → IsRight paths (numbers_of q) v
   IsRight-asked x y is_x is_y v h =
-      subst (λ (r : Asked). IsRight paths (numbers_of r) v) (sym asked.is)
+      subst (λ (r : Question). IsRight paths (numbers_of r) v) (sym asked.is)
       (IsRight-placed paths asked.first asked.second x y asked.at_first asked.at_second
-      (is_x ∙ ap (λ (r : Asked). get_or paths r.x x) asked.is) (is_y ∙ ap (λ (r : Asked). get_or paths r.y y) asked.is) v
-      (subst (λ (r : Asked). IsRight (two x y) (between r.a r.b) v) asked.is h))
+      (is_x ∙ ap (λ (r : Question). get_or paths r.x x) asked.is) (is_y ∙ ap (λ (r : Question). get_or paths r.y y) asked.is) v
+      (subst (λ (r : Question). IsRight (two x y) (between r.a r.b) v) asked.is h))

@@ -5,7 +5,7 @@ use Rattle.std.specs.List.{AllZip}
 use Rattle.std.proofs.lemmas.List.Elements.{All-nil, All-cons, All-head, All-tail}
 use Rattle.std.proofs.lemmas.Option.{get_or_from_slice_get, slice_get-get_or, slice_get_within, same_Some}
 use Rattle.prog_check.specs.declared.path.Path.{Path}
-use Rattle.prog_paths.specs.declared.accesses.places.Question.{Question as Asked}
+use Rattle.prog_paths.specs.declared.accesses.places.Question.{Question}
 use Rattle.prog_paths.specs.Questions.{ChangesSingleCells, questions_of}
 use Rattle.prog_paths.specs.Listing.{IsAskedOf}
 use Rattle.prog_paths.proofs.Membership.{Asks-from_asks}
@@ -23,17 +23,17 @@ pub at_any : (l : List Verdict) (n : ℕ) (d e : Verdict) → n < length l → g
 at_any l n d e lt = get_or_from_slice_get l n (get_or l n e) d (slice_get-get_or l n e lt)
 
 module _ (vs : List Verdict) where
-  pub entries-length : (qs : List Asked) (ns : List ℕ) → length qs ≡ length ns → length (entries_of vs qs ns) ≡ length qs
+  pub entries-length : (qs : List Question) (ns : List ℕ) → length qs ≡ length ns → length (entries_of vs qs ns) ≡ length qs
   entries-length [] ns e = refl
   entries-length (q ∷ qs) [] e = let no : ⊥ = omega (arith, e) in absurd no
   entries-length (q ∷ qs) (n ∷ ns) e = ap suc (entries-length qs ns (omega (arith, e)))
 
-  pub entries-questions : (qs : List Asked) (ns : List ℕ) → length qs ≡ length ns → map (λ (e : Judged). e.question) (entries_of vs qs ns) ≡ qs
+  pub entries-questions : (qs : List Question) (ns : List ℕ) → length qs ≡ length ns → map (λ (e : Judged). e.question) (entries_of vs qs ns) ≡ qs
   entries-questions [] ns e = refl
   entries-questions (q ∷ qs) [] e = let no : ⊥ = omega (arith, e) in absurd no
-  entries-questions (q ∷ qs) (n ∷ ns) e = ap (λ (l : List Asked). q ∷ l) (entries-questions qs ns (omega (arith, e)))
+  entries-questions (q ∷ qs) (n ∷ ns) e = ap (λ (l : List Question). q ∷ l) (entries-questions qs ns (omega (arith, e)))
 
-  pub entries-none : (qs : List Asked) (ns : List ℕ) → length qs ≡ length ns → (qs ≡ [] → entries_of vs qs ns ≡ []) × (entries_of vs qs ns ≡ [] → qs ≡ [])
+  pub entries-none : (qs : List Question) (ns : List ℕ) → length qs ≡ length ns → (qs ≡ [] → entries_of vs qs ns ≡ []) × (entries_of vs qs ns ≡ [] → qs ≡ [])
   entries-none [] ns e = (λ h. refl, λ h. refl)
   entries-none (q ∷ qs) ns e = (
     λ h. let no : ⊥ = omega (arith, ap length h) in absurd no,
@@ -41,7 +41,7 @@ module _ (vs : List Verdict) where
   )
 
   -- the entry of a number
-  pub entries-at : (qs : List Asked) (ns : List ℕ) (k : ℕ) (q : Asked) (n : ℕ) (e : Judged) → slice_get (entries_of vs qs ns) k ≡ Some e → e ≡ entry_by vs (get_or qs k q) (get_or ns k n)
+  pub entries-at : (qs : List Question) (ns : List ℕ) (k : ℕ) (q : Question) (n : ℕ) (e : Judged) → slice_get (entries_of vs qs ns) k ≡ Some e → e ≡ entry_by vs (get_or qs k q) (get_or ns k n)
   entries-at [] ns k q n e at = absurd (no-entry k at)
     where
       no-entry : (k : ℕ) → slice_get (entries_of vs [] ns) k ≡ Some e → ⊥
@@ -54,11 +54,11 @@ module _ (vs : List Verdict) where
   entries-at (x ∷ qs) (m ∷ ns) (suc k) q n e at = entries-at qs ns k q n e at
 
   -- the question of an entry has a number
-  pub number-within : (qs : List Asked) (ns : List ℕ) (k : ℕ) → length qs ≡ length ns → k < length (entries_of vs qs ns) → k < length ns
+  pub number-within : (qs : List Question) (ns : List ℕ) (k : ℕ) → length qs ≡ length ns → k < length (entries_of vs qs ns) → k < length ns
   number-within qs ns k e lt = subst (λ (l : ℕ). k < l) (entries-length qs ns e ∙ e) lt
 
   -- and at this number its verdict stands
-  pub number-verdict : (qs : List Asked) (ns : List ℕ) (k n : ℕ) (e : Judged) → length qs ≡ length ns → All (λ n. n < length vs) ns → n ≡ get_or ns k n → slice_get (entries_of vs qs ns) k ≡ Some e → slice_get vs n ≡ Some e.verdict
+  pub number-verdict : (qs : List Question) (ns : List ℕ) (k n : ℕ) (e : Judged) → length qs ≡ length ns → All (λ n. n < length vs) ns → n ≡ get_or ns k n → slice_get (entries_of vs qs ns) k ≡ Some e → slice_get vs n ≡ Some e.verdict
   number-verdict qs ns k n e one_each within is at =
       let lt = subst (λ (m : ℕ). m < length vs) (sym is) (within k n (number-within qs ns k one_each (slice_get_within (entries_of vs qs ns) k e at))) in
       slice_get-get_or vs n (Apart []) lt
@@ -67,14 +67,14 @@ module _ (vs : List Verdict) where
 
 -- ---- right verdicts
 
-IsAskedOf-from_asked : (paths : List Path) (q : Asked) → IsAsked paths q → IsAskedOf paths q
+IsAskedOf-from_asked : (paths : List Path) (q : Question) → IsAsked paths q → IsAskedOf paths q
 IsAskedOf-from_asked paths q h =
     let k = Asks-from_asks h.first h.second h.asks_it in
-    subst (λ (r : Asked). IsAskedOf paths r) (sym h.is)
+    subst (λ (r : Question). IsAskedOf paths r) (sym h.is)
     (record { mine = h.first.access; theirs = h.second.access; asked = record { at_mine = h.at_first; at_theirs = h.at_second; table = k.0 }; mine_kind = refl; their_kind = refl; asks = k.1 })
 
 -- each verdict is on the question that was judged
-pub verdicts-right : (paths : List Path) → All ChangesSingleCells paths → (judged : List Asked) (vs : List Verdict) → All (IsAsked paths) judged → AllZip (IsJudgedAt paths) judged vs → All (IsOnQuestion paths) vs
+pub verdicts-right : (paths : List Path) → All ChangesSingleCells paths → (judged : List Question) (vs : List Verdict) → All (IsAsked paths) judged → AllZip (IsJudgedAt paths) judged vs → All (IsOnQuestion paths) vs
 verdicts-right paths single [] [] h k = All-nil (IsOnQuestion paths)
 verdicts-right paths single [] (v ∷ vs) h k = absurd k
 verdicts-right paths single (q ∷ qs) [] h k = absurd k
@@ -86,15 +86,15 @@ verdicts-right paths single (q ∷ qs) (v ∷ vs) h k =
 
 -- ---- right entries
 
-module _ (paths : List Path) (judged : List Asked) (vs : List Verdict) (asked : All (IsAsked paths) judged) (answered : AllZip (IsJudgedAt paths) judged vs) where
+module _ (paths : List Path) (judged : List Question) (vs : List Verdict) (asked : All (IsAsked paths) judged) (answered : AllZip (IsJudgedAt paths) judged vs) where
   -- the verdict on the question that stands for another says what the facts say of this one
-  stands-judged : (q : Asked) (n : ℕ) → IsServed (IsLike paths) judged q n → IsJudgedAt paths q (verdict_at vs n)
+  stands-judged : (q : Question) (n : ℕ) → IsServed (IsLike paths) judged q n → IsJudgedAt paths q (verdict_at vs n)
   stands-judged q n h =
       judged-like paths q h.value (verdict_at vs n) h.serves
-      (subst (λ (r : Asked). IsJudgedAt paths r (verdict_at vs n)) (get_or_from_slice_get judged n h.value h.value h.at)
+      (subst (λ (r : Question). IsJudgedAt paths r (verdict_at vs n)) (get_or_from_slice_get judged n h.value h.value h.at)
       (AllZip-at (IsJudgedAt paths) judged vs n h.value (Apart []) answered (served-within (IsLike paths) judged q n h)))
 
-  pub numbers-within : (qs : List Asked) (ns : List ℕ) → AllZip (IsServed (IsLike paths) judged) qs ns → All (λ n. n < length vs) ns
+  pub numbers-within : (qs : List Question) (ns : List ℕ) → AllZip (IsServed (IsLike paths) judged) qs ns → All (λ n. n < length vs) ns
   numbers-within [] [] h = All-nil (λ n. n < length vs)
   numbers-within [] (n ∷ ns) h = absurd h
   numbers-within (q ∷ qs) [] h = absurd h
@@ -103,7 +103,7 @@ module _ (paths : List Path) (judged : List Asked) (vs : List Verdict) (asked : 
       (subst (λ (k : ℕ). n < k) (AllZip-lengths (IsJudgedAt paths) judged vs answered) (served-within (IsLike paths) judged q n h.0))
       (numbers-within qs ns h.1)
 
-  pub entries-right : All ChangesSingleCells paths → (qs : List Asked) (ns : List ℕ) → All (IsAsked paths) qs → AllZip (IsServed (IsLike paths) judged) qs ns → All (λ e. IsRightEntry paths e) (entries_of vs qs ns)
+  pub entries-right : All ChangesSingleCells paths → (qs : List Question) (ns : List ℕ) → All (IsAsked paths) qs → AllZip (IsServed (IsLike paths) judged) qs ns → All (λ e. IsRightEntry paths e) (entries_of vs qs ns)
   entries-right single [] ns h k = All-nil (λ (e : Judged). IsRightEntry paths e)
   entries-right single (q ∷ qs) [] h k = absurd k
   entries-right single (q ∷ qs) (n ∷ ns) h k =
@@ -112,7 +112,7 @@ module _ (paths : List Path) (judged : List Asked) (vs : List Verdict) (asked : 
       (entries-right single qs ns (All-tail (IsAsked paths) q qs h) k.1)
 
   -- the table of all questions
-  pub StandsFor-from : All ChangesSingleCells paths → (table : Table) (qs : List Asked) (ns : List ℕ) → All (IsAsked paths) qs → AllZip (IsServed (IsLike paths) judged) qs ns → table.nodes ≡ length paths → table.verdicts ≡ vs → table.entries ≡ entries_of vs qs ns → qs ≡ questions_of paths → StandsFor table paths
+  pub StandsFor-from : All ChangesSingleCells paths → (table : Table) (qs : List Question) (ns : List ℕ) → All (IsAsked paths) qs → AllZip (IsServed (IsLike paths) judged) qs ns → table.nodes ≡ length paths → table.verdicts ≡ vs → table.entries ≡ entries_of vs qs ns → qs ≡ questions_of paths → StandsFor table paths
   StandsFor-from single table qs ns h k nodes verdicts entries all = record {
     nodes = nodes;
     questions = ap (map (λ (e : Judged). e.question)) entries ∙ entries-questions vs qs ns (AllZip-lengths (IsServed (IsLike paths) judged) qs ns k) ∙ all;

@@ -7,7 +7,7 @@ use Rattle.std.proofs.lemmas.List.Elements.{All-cons, All-filter, All-head, All-
 use Rattle.std.proofs.lemmas.Option.{get_or_from_slice_get, slice_get-get_or, slice_get-map, slice_get_within}
 use Rattle.prog_check.specs.declared.path.Path.{Path}
 use Rattle.prog_paths.specs.declared.accesses.places.Placed.{Placed}
-use Rattle.prog_paths.specs.declared.accesses.places.Question.{Question as Asked}
+use Rattle.prog_paths.specs.declared.accesses.places.Question.{Question}
 use Rattle.prog_paths.specs.Questions.{all_from, question_between, questions_of}
 use Rattle.prog_paths.specs.Changers.{changes, changers_of}
 use Rattle.prog_paths.specs.Places.{IsAt}
@@ -57,7 +57,7 @@ module _ {Key Told : Type 0} (f : Key → Told) (Serves : Told → Told → Type
 -- pairs whose questions are all that the paths ask
 pub asked-pairs : (paths : List Path) (pairs : List PlacePair) → All (HasPlaces (all_from 0 paths)) pairs → questions_at (all_from 0 paths) pairs ≡ questions_of paths → All (IsAskedAt paths) pairs
 asked-pairs paths pairs within all k d lt =
-    let asked = All-given (question_at (all_from 0 paths)) (IsAsked paths) pairs (subst (λ (l : List Asked). All (IsAsked paths) l) (sym all) (all_asked paths)) in
+    let asked = All-given (question_at (all_from 0 paths)) (IsAsked paths) pairs (subst (λ (l : List Question). All (IsAsked paths) l) (sym all) (all_asked paths)) in
     record { within = within k d lt; asked = asked k d lt }
 
 -- pairs that stand for others show their questions
@@ -125,5 +125,5 @@ module _ (vs : List Verdict) (places : List Placed) (pairs : List PlacePair) (ns
   pub pairs-length : length (entries_of vs (questions_at places pairs) ns) ≡ length pairs
   pairs-length = entries-length vs (questions_at places pairs) ns (length-map pairs (question_at places) ∙ one_each) ∙ length-map pairs (question_at places)
 
-pub pair-at : (places : List Placed) (pairs : List PlacePair) (n : ℕ) (pair : PlacePair) (q : Asked) → n < length pairs → pair ≡ get_or pairs n pair → q ≡ question_at places pair → q ≡ get_or (questions_at places pairs) n q
+pub pair-at : (places : List Placed) (pairs : List PlacePair) (n : ℕ) (pair : PlacePair) (q : Question) → n < length pairs → pair ≡ get_or pairs n pair → q ≡ question_at places pair → q ≡ get_or (questions_at places pairs) n q
 pair-at places pairs n pair q lt is of_pair = of_pair ∙ ap (question_at places) is ∙ sym (get_or-map (question_at places) pairs n pair q lt)

@@ -4,7 +4,7 @@ use Rattle.std.specs.Prelude.{◌≡◌, ℕ, ◌<◌, List, [], length, Option,
 use Rattle.prog_check.specs.declared.path.Access.{Access}
 use Rattle.prog_check.specs.declared.path.Path.{Path}
 use Rattle.prog_paths.specs.declared.accesses.places.Placed.{Placed}
-use Rattle.prog_paths.specs.declared.accesses.places.Question.{Question as Asked}
+use Rattle.prog_paths.specs.declared.accesses.places.Question.{Question}
 use Rattle.prog_paths.specs.Questions.{asks, question_between, questions_of}
 use Rattle.prog_paths.specs.Meeting.{MayCover}
 use Rattle.prog_paths.specs.Places.{AreAlike, IsAt}
@@ -47,7 +47,7 @@ pub record AreCoverClasses (paths : List Path) (classes : List ℕ) : Type 0 whe
 -- ---- questions
 
 -- the question is what an access of the paths asks of another
-pub record IsAsked (paths : List Path) (q : Asked) : Type 0 where
+pub record IsAsked (paths : List Path) (q : Question) : Type 0 where
   pub first : Placed
   pub second : Placed
   pub at_first : IsAt paths first
@@ -69,22 +69,22 @@ pub record IsLikeAt (paths : List Path) (x a y b : ℕ) : Type 0 where
   pub covers : HaveSameCovers (accesses_at paths x) (accesses_at paths y)
 
 -- two questions are alike on both sides
-abbrev pub IsLike : List Path → Asked → Asked → Type 0
+abbrev pub IsLike : List Path → Question → Question → Type 0
 IsLike paths q r = IsLikeAt paths q.x q.a r.x r.a × IsLikeAt paths q.y q.b r.y r.b
 
 -- questions that are judged, and for each of others the number of one that is like it
-abbrev pub AreShown : List Path → List Asked → List Asked → List ℕ → Type 0
+abbrev pub AreShown : List Path → List Question → List Question → List ℕ → Type 0
 AreShown paths = AreInterned (IsAsked paths) (IsLike paths)
 
 -- all questions of the paths, and which of them are judged
-pub record AreListed (paths : List Path) (qs judged : List Asked) (numbers : List ℕ) : Type 0 where
+pub record AreListed (paths : List Path) (qs judged : List Question) (numbers : List ℕ) : Type 0 where
   pub all : qs ≡ questions_of paths
   pub shown : AreShown paths qs judged numbers
 
 -- ---- verdicts
 
 -- a verdict says what the facts say of a question's accesses
-abbrev pub IsJudgedAt : List Path → Asked → Verdict → Type 0
+abbrev pub IsJudgedAt : List Path → Question → Verdict → Type 0
 IsJudgedAt paths q verdict =
     (mine theirs : Access) → IsAccessOf paths q.x q.a mine → IsAccessOf paths q.y q.b theirs
     → IsJudged (accesses_at paths q.x) (accesses_at paths q.y) mine theirs verdict

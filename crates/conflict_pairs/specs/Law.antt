@@ -3,7 +3,7 @@ use Rattle.std.specs.Prelude.{◌≡◌, ◌↔◌, List, true, false}
 use Rattle.prog_check.specs.declared.path.Access.{Access}
 use Rattle.prog_check.specs.declared.path.Path.{Path}
 use Rattle.prog_paths.specs.Meeting.{CanMeet}
-use Rattle.prog_paths.specs.StaticGraph.{Question, AsksOf, AsksReadWrite, IsCovered}
+use Rattle.prog_paths.specs.StaticGraph.{QuestionNumbers, AsksOf, AsksReadWrite, IsCovered}
 use Rattle.conflict_pairs.specs.declared.verdicts.Verdict.{Verdict}
 use Rattle.conflict_pairs.specs.declared.verdicts.Verdict.TheVariants.{Covered}
 use Rattle.conflict_pairs.specs.Verdicts.{IsRight, can_meet, is_exposed, IsExposedQuestion}
@@ -13,12 +13,12 @@ IsCoveredVerdict (Covered m t chains) = Unit {0}
 IsCoveredVerdict _ = ⊥
 
 -- the question asks for a read-write dependency, can meet, and is covered
-abbrev pub IsCoveredQuestion : List Path → Question → Access → Access → Type 0
+abbrev pub IsCoveredQuestion : List Path → QuestionNumbers → Access → Access → Type 0
 IsCoveredQuestion nodes q mine theirs =
     AsksReadWrite q mine.kind theirs.kind × CanMeet mine theirs × IsCovered nodes q.x q.y mine theirs
 
 -- which of the three a verdict is
-pub record IsExact (nodes : List Path) (q : Question) (mine theirs : Access) (verdict : Verdict) : Type 0 where
+pub record IsExact (nodes : List Path) (q : QuestionNumbers) (mine theirs : Access) (verdict : Verdict) : Type 0 where
   pub apart : (can_meet verdict ≡ false) ↔ ¬ CanMeet mine theirs
   pub covered : IsCoveredVerdict verdict ↔ IsCoveredQuestion nodes q mine theirs
   pub exposed : (is_exposed verdict ≡ true) ↔ IsExposedQuestion nodes q mine theirs
@@ -26,5 +26,5 @@ pub record IsExact (nodes : List Path) (q : Question) (mine theirs : Access) (ve
 -- a right verdict is apart just where the two accesses can't meet, covered just where the question is, else exposed
 abbrev pub LawOfVerdicts : Type 0
 LawOfVerdicts =
-    (nodes : List Path) (q : Question) (mine theirs : Access) (verdict : Verdict)
+    (nodes : List Path) (q : QuestionNumbers) (mine theirs : Access) (verdict : Verdict)
     → AsksOf nodes q mine theirs → IsRight nodes q verdict → IsExact nodes q mine theirs verdict

@@ -5,7 +5,7 @@ use Rattle.prog_check.specs.declared.path.Kind.TheVariants.{Reads}
 use Rattle.prog_check.specs.declared.path.Path.{Path}
 use Rattle.prog_check.specs.declared.path.Term.TheVariants.{Param}
 use Rattle.prog_paths.specs.declared.accesses.places.Placed.{Placed}
-use Rattle.prog_paths.specs.declared.accesses.places.Question.{Question as Asked}
+use Rattle.prog_paths.specs.declared.accesses.places.Question.{Question}
 use Rattle.prog_paths.specs.Questions.{all_from, question_between}
 use Rattle.conflict_pairs.specs.declared.listing.Questions.{Questions}
 use Rattle.conflict_pairs.specs.declared.pairing.PlacePair.{PlacePair}
@@ -32,10 +32,10 @@ abbrev pub place_at : List Placed → ℕ → Placed
 place_at places n = slice_index_or places n no_place
 
 -- the question between the accesses of a pair
-abbrev pub question_at : List Placed → PlacePair → Asked
+abbrev pub question_at : List Placed → PlacePair → Question
 question_at places pair = question_between (place_at places pair.first) (place_at places pair.second)
 
-abbrev pub questions_at : List Placed → List PlacePair → List Asked
+abbrev pub questions_at : List Placed → List PlacePair → List Question
 questions_at places pairs = map (question_at places) pairs
 
 -- both numbers of a pair are those of accesses
@@ -49,7 +49,7 @@ pub record StandsAt (starts : List ℕ) (places : List Placed) (p : Placed) : Ty
   pub stands : slice_get places (slice_index_or starts p.node 0 + p.number) ≡ Some p
 
 -- the question of a pair of accesses of the paths
-abbrev pub asked_at : List Path → PlacePair → Asked
+abbrev pub asked_at : List Path → PlacePair → Question
 asked_at paths pair = question_at (all_from 0 paths) pair
 
 -- a pair of these accesses, of which the first asks something of the second

@@ -6,14 +6,14 @@ use Rattle.std.specs.declared.alloc.Global.{Global}
 use Rattle.prog_check.specs.declared.path.Path.{Path}
 use Rattle.conflict_pairs.specs.declared.verdicts.Verdict.{Verdict}
 use Rattle.conflict_pairs.specs.declared.verdicts.Verdict.TheVariants.{Apart}
-use Rattle.prog_paths.specs.declared.accesses.places.Question.{Question as Asked}
+use Rattle.prog_paths.specs.declared.accesses.places.Question.{Question}
 use Rattle.prog_paths.specs.Questions.{numbers_of, questions_of}
 use Rattle.prog_paths.specs.Listing.{IsAskedOf}
 use Rattle.conflict_pairs.specs.Verdicts.{IsRight}
 
 -- a question and its verdict
 pub record Judged : Type 0 where
-  pub question : Asked
+  pub question : Question
   pub verdict : Verdict
 
 -- how many nodes there are, the verdicts that questions have, and the questions with their verdicts
@@ -31,11 +31,11 @@ abbrev pub verdict_at : List Verdict → ℕ → Verdict
 verdict_at verdicts n = slice_index_or verdicts n (Apart [])
 
 -- a question with the verdict of a number
-abbrev pub entry_by : List Verdict → Asked → ℕ → Judged
+abbrev pub entry_by : List Verdict → Question → ℕ → Judged
 entry_by verdicts q n = record { question = q; verdict = verdict_at verdicts n }
 
 -- each question with the verdict of its number
-abbrev pub entries_of : List Verdict → List Asked → List ℕ → List Judged
+abbrev pub entries_of : List Verdict → List Question → List ℕ → List Judged
 entries_of verdicts [] numbers = []
 entries_of verdicts (q ∷ qs) [] = []
 entries_of verdicts (q ∷ qs) (n ∷ numbers) = entry_by verdicts q n ∷ entries_of verdicts qs numbers
@@ -46,7 +46,7 @@ IsRightEntry paths e = IsRight paths (numbers_of e.question) e.verdict
 
 -- a verdict is right of some question of the paths
 pub record IsOnQuestion (paths : List Path) (verdict : Verdict) : Type 0 where
-  pub question : Asked
+  pub question : Question
   pub asked : IsAskedOf paths question
   pub right : IsRight paths (numbers_of question) verdict
 

@@ -11,7 +11,7 @@ use Rattle.prog_check.specs.declared.path.Access.{Access}
 use Rattle.prog_check.specs.declared.path.Path.{Path}
 use Rattle.prog_paths.specs.Meeting.{Assignment, MeetsUnder, CanMeet}
 use Rattle.prog_paths.specs.Facts.{question_facts}
-use Rattle.prog_paths.specs.StaticGraph.{Question, AsksOf, AsksReadWrite, IsCovered}
+use Rattle.prog_paths.specs.StaticGraph.{QuestionNumbers, AsksOf, AsksReadWrite, IsCovered}
 use Rattle.conflict_pairs.specs.declared.verdicts.Verdict.{Verdict}
 use Rattle.conflict_pairs.specs.declared.verdicts.Verdict.TheVariants.{Apart, Covered, Exposed}
 use Rattle.prog_paths.specs.Shown.{Falls, Runs, key_pairs, ShowEqual}
@@ -33,7 +33,7 @@ pub record HasFall (facts : List Fact) : Type 0 where
   pub falls : IsFall fact.lo fact.hi
 
 -- in a column of the question's two accesses two numbers stand that can't meet: a fact of them falls
-pub record NumbersFall (nodes : List Path) (q : Question) : Type 0 where
+pub record NumbersFall (nodes : List Path) (q : QuestionNumbers) : Type 0 where
   pub mine : Access
   pub theirs : Access
   pub asked : AsksOf nodes q mine theirs
@@ -54,7 +54,7 @@ IsShortest facts chain =
     → length chain ≤ length other
 
 -- these two accesses cover the question, and no pair before them does
-pub record IsLeastCover (nodes : List Path) (q : Question) (mine theirs : Access) (m t : ℕ) : Type 0 where
+pub record IsLeastCover (nodes : List Path) (q : QuestionNumbers) (mine theirs : Access) (m t : ℕ) : Type 0 where
   pub cover : IsCovered nodes q.x q.y mine theirs
   pub mine_is : cover.first ≡ m
   pub theirs_is : cover.second ≡ t
@@ -62,7 +62,7 @@ pub record IsLeastCover (nodes : List Path) (q : Question) (mine theirs : Access
       → (m < other.first) ⊎ ((m ≡ other.first) × (t ≤ other.second))
 
 -- the question asks for a read-write dependency and can meet, and these two accesses cover it, as the chains show
-pub record IsCoveredBy (nodes : List Path) (q : Question) (mine theirs : Access) (m t : ℕ)
+pub record IsCoveredBy (nodes : List Path) (q : QuestionNumbers) (mine theirs : Access) (m t : ℕ)
     (chains : List (List Node)) : Type 0 where
   pub asks : AsksReadWrite q mine.kind theirs.kind
   pub can_meet : CanMeet mine theirs
@@ -87,7 +87,7 @@ theirs_of sample = record {
 }
 
 -- the accesses meet under the sample, and no pair covers what may be a read-write dependency
-pub record IsExposedBy (nodes : List Path) (q : Question) (mine theirs : Access)
+pub record IsExposedBy (nodes : List Path) (q : QuestionNumbers) (mine theirs : Access)
     (sample : List Choice) : Type 0 where
   pub meets : MeetsUnder (mine_of sample) (theirs_of sample) mine theirs
   pub nearest : (n : Node) → IsSampled (question_facts mine theirs) n (sample_number sample n)
@@ -96,14 +96,14 @@ pub record IsExposedBy (nodes : List Path) (q : Question) (mine theirs : Access)
 -- ---- the verdict
 
 -- a verdict is right of the question between these two accesses
-abbrev pub IsRightOf : List Path → Question → Access → Access → Verdict → Type 0
+abbrev pub IsRightOf : List Path → QuestionNumbers → Access → Access → Verdict → Type 0
 IsRightOf nodes q mine theirs (Apart chain) =
     ¬ CanMeet mine theirs × FallsShortest (question_facts mine theirs) chain
 IsRightOf nodes q mine theirs (Covered m t chains) = IsCoveredBy nodes q mine theirs m t chains
 IsRightOf nodes q mine theirs (Exposed sample) = IsExposedBy nodes q mine theirs sample
 
 -- a verdict is right of a question of the paths
-abbrev pub IsRight : List Path → Question → Verdict → Type 0
+abbrev pub IsRight : List Path → QuestionNumbers → Verdict → Type 0
 IsRight nodes q verdict =
     (mine theirs : Access) → AsksOf nodes q mine theirs → IsRightOf nodes q mine theirs verdict
 
@@ -124,11 +124,11 @@ is_exposed (Exposed _) = true
 -- ---- whether a question is exposed
 
 -- it can meet, and is not covered where it asks for a read-write dependency
-abbrev pub IsExposedQuestion : List Path → Question → Access → Access → Type 0
+abbrev pub IsExposedQuestion : List Path → QuestionNumbers → Access → Access → Type 0
 IsExposedQuestion nodes q mine theirs =
     CanMeet mine theirs × (AsksReadWrite q mine.kind theirs.kind → ¬ IsCovered nodes q.x q.y mine theirs)
 
 -- the answer says whether it is
-abbrev pub TellsExposed : List Path → Question → Bool → Type 0
+abbrev pub TellsExposed : List Path → QuestionNumbers → Bool → Type 0
 TellsExposed nodes q told =
     (mine theirs : Access) → AsksOf nodes q mine theirs → (told ≡ true) ↔ IsExposedQuestion nodes q mine theirs

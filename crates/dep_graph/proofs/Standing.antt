@@ -9,8 +9,8 @@ use Rattle.std.proofs.lemmas.Option.{slice_get_within, same_Some}
 use Rattle.prog_check.specs.declared.path.Access.{Access}
 use Rattle.prog_check.specs.declared.path.Path.{Path}
 use Rattle.prog_paths.specs.Meeting.{CanMeet}
-use Rattle.prog_paths.specs.StaticGraph.{Question, AsksOf, AsksReadWrite, StaticEdge, IsExposed, IsVulnerable}
-use Rattle.prog_paths.specs.declared.accesses.places.Question.{Question as Asked}
+use Rattle.prog_paths.specs.StaticGraph.{QuestionNumbers, AsksOf, AsksReadWrite, StaticEdge, IsExposed, IsVulnerable}
+use Rattle.prog_paths.specs.declared.accesses.places.Question.{Question}
 use Rattle.prog_paths.specs.declared.accesses.mark.Mark.{Mark}
 use Rattle.prog_paths.specs.Questions.{numbers_of, questions_of}
 use Rattle.prog_paths.specs.Listing.{IsAskedOf, IsBefore}
@@ -34,7 +34,7 @@ use Rattle.dep_graph.proofs.Placing.{IsExposedAt, IsLeastAt}
 
 -- ---- verdicts
 
-module _ (paths : List Path) (q : Question) (mine theirs : Access) where
+module _ (paths : List Path) (q : QuestionNumbers) (mine theirs : Access) where
   meets-right : (v : Verdict) → IsRightOf paths q mine theirs v → can_meet v ≡ true → CanMeet mine theirs
   meets-right (Apart chain) r e = absurd (false≢true e)
   meets-right (Covered m t chains) r e = r.can_meet
@@ -57,10 +57,10 @@ module _ (paths : List Path) (q : Question) (mine theirs : Access) where
 
 -- ---- some entry
 
-abbrev question_in : Judged → Asked
+abbrev question_in : Judged → Question
 question_in e = e.question
 
-abbrev Meets : Question → Access → Access → Type 0
+abbrev Meets : QuestionNumbers → Access → Access → Type 0
 Meets q mine theirs = CanMeet mine theirs
 
 any_entry : (p : Mark → Bool) (entries : List Judged) → list_any p (map mark_of entries) ≡ true → (e : Judged) × Contains entries e × (p (mark_of e) ≡ true)
@@ -71,26 +71,26 @@ any_entry p entries h =
 
 module _ (t : Table) (paths : List Path) (s : StandsFor t paths) where
   asked_of : (e : Judged) → Contains t.entries e → IsAskedOf paths e.question
-  asked_of e i = (law_of_listing paths e.question).0 (subst (λ (qs : List Asked). Contains qs e.question) s.questions (contains_mapped question_in t.entries e i))
+  asked_of e i = (law_of_listing paths e.question).0 (subst (λ (qs : List Question). Contains qs e.question) s.questions (contains_mapped question_in t.entries e i))
 
   right_of : (e : Judged) → Contains t.entries e → IsRightEntry paths e
   right_of e i = All-contains (λ e. IsRightEntry paths e) t.entries e s.right i
 
   -- an entry of a question of the paths, which is right of it
-  record IsFound (q : Asked) : Type 0 where
+  record IsFound (q : Question) : Type 0 where
     entry : Judged
     is_in : Contains t.entries entry
     is : entry.question ≡ q
     right : IsRight paths (numbers_of q) entry.verdict
 
-  found : (q : Asked) → IsAskedOf paths q → IsFound q
+  found : (q : Question) → IsAskedOf paths q → IsFound q
   found q a = made f.0 f.1 f.2
     where
       f : (e : Judged) × Contains t.entries e × (e.question ≡ q)
-      f = from_mapped question_in t.entries q (subst (λ (qs : List Asked). Contains qs q) (sym s.questions) ((law_of_listing paths q).1 a))
+      f = from_mapped question_in t.entries q (subst (λ (qs : List Question). Contains qs q) (sym s.questions) ((law_of_listing paths q).1 a))
 
       made : (e : Judged) → Contains t.entries e → e.question ≡ q → IsFound q
-      made e i same = record { entry = e; is_in = i; is = same; right = subst (λ (p : Asked). IsRight paths (numbers_of p) e.verdict) same (right_of e i) }
+      made e i same = record { entry = e; is_in = i; is = same; right = subst (λ (p : Question). IsRight paths (numbers_of p) e.verdict) same (right_of e i) }
 
   -- ---- what the entries give, the paths have
 
@@ -121,13 +121,13 @@ module _ (t : Table) (paths : List Path) (s : StandsFor t paths) where
       let f = found g.question g.asked in
       let v = f.entry.verdict in
       let meets = right-meets paths (numbers_of g.question) g.asked.mine g.asked.theirs v (f.right g.asked.mine g.asked.theirs g.asked.asked) g.holds in
-      let gives = subst (λ (q : Asked). gives_edge x y (mark_by q (can_meet v) (is_exposed v)) ≡ true) (sym f.is) (g.gives (can_meet v) (is_exposed v) meets) in
+      let gives = subst (λ (q : Question). gives_edge x y (mark_by q (can_meet v) (is_exposed v)) ≡ true) (sym f.is) (g.gives (can_meet v) (is_exposed v) meets) in
       let inside = EdgeOf-inside Meets paths x y edge in
       let nodes = s.nodes in
       record { x_inside = omega (arith, nodes, inside.0); y_inside = omega (arith, nodes, inside.1); has = in_any (gives_edge x y) (map mark_of t.entries) (mark_of f.entry) (contains_mapped mark_of t.entries f.entry f.is_in) gives }
 
   -- a question that makes an edge vulnerable has an entry that does
-  record IsGiven (x y : ℕ) (of : Question) : Type 0 where
+  record IsGiven (x y : ℕ) (of : QuestionNumbers) : Type 0 where
     entry : Judged
     is_in : Contains t.entries entry
     is : of ≡ numbers_of entry.question
@@ -143,7 +143,7 @@ module _ (t : Table) (paths : List Path) (s : StandsFor t paths) where
         entry = f.entry;
         is_in = f.is_in;
         is = g.is ∙ ap numbers_of (sym f.is);
-        gives = subst (λ (q : Asked). gives_vulnerable x y (mark_by q (can_meet v) (is_exposed v)) ≡ true) (sym f.is) (g.gives (can_meet v) (is_exposed v) exposed);
+        gives = subst (λ (q : Question). gives_vulnerable x y (mark_by q (can_meet v) (is_exposed v)) ≡ true) (sym f.is) (g.gives (can_meet v) (is_exposed v) exposed);
       }
 
   pub HasVulnerable-from_vulnerable : IsWithin (IsVulnerable paths) (HasVulnerable (marks_of t))
@@ -167,19 +167,19 @@ module _ (t : Table) (paths : List Path) (s : StandsFor t paths) where
       let i = contains_at t.entries n e h.at in
       let g = mark-from_vulnerable (IsExposed paths) paths x y h.exposed in
       let same = same_asked paths g.question e.question g.asked (asked_of e i) (sym g.is ∙ h.is) in
-      let right = subst (λ (q : Asked). IsRight paths (numbers_of q) e.verdict) (sym same) (right_of e i) in
+      let right = subst (λ (q : Question). IsRight paths (numbers_of q) e.verdict) (sym same) (right_of e i) in
       let exposed = right-exposed paths (numbers_of g.question) g.asked.mine g.asked.theirs e.verdict (right g.asked.mine g.asked.theirs g.asked.asked) g.holds in
-      subst (λ (q : Asked). gives_vulnerable x y (mark_by q (can_meet e.verdict) (is_exposed e.verdict)) ≡ true) same (g.gives (can_meet e.verdict) (is_exposed e.verdict) exposed)
+      subst (λ (q : Question). gives_vulnerable x y (mark_by q (can_meet e.verdict) (is_exposed e.verdict)) ≡ true) same (g.gives (can_meet e.verdict) (is_exposed e.verdict) exposed)
 
   -- the one question of x against y stands before the other or is it
-  abbrev Precedes : Judged → Question → Type 0
+  abbrev Precedes : Judged → QuestionNumbers → Type 0
   Precedes e q = (e.question.a < q.a) ⊎ ((e.question.a ≡ q.a) × (e.question.b ≤ q.b))
 
   entries_rise : (n m : ℕ) (e d : Judged) → slice_get t.entries n ≡ Some e → slice_get t.entries m ≡ Some d → n < m → IsBefore (numbers_of e.question) (numbers_of d.question)
   entries_rise n m e d at_n at_m = rise-between numbers_of (questions_of paths) (law_of_order paths) n m e.question d.question (listed n e at_n) (listed m d at_m)
     where
       listed : (k : ℕ) (c : Judged) → slice_get t.entries k ≡ Some c → slice_get (questions_of paths) k ≡ Some c.question
-      listed k c h = subst (λ (qs : List Asked). slice_get qs k ≡ Some c.question) s.questions (mapped_at question_in t.entries k c h)
+      listed k c h = subst (λ (qs : List Question). slice_get qs k ≡ Some c.question) s.questions (mapped_at question_in t.entries k c h)
 
   least_of_places : (x y n : ℕ) (here : IsExposedAt paths t x y n) → ((m : ℕ) → IsExposedAt paths t x y m → n ≤ m) → IsLeastAt paths t x y n
   least_of_places x y n here first = record { at_place = here; least = least }
@@ -189,16 +189,16 @@ module _ (t : Table) (paths : List Path) (s : StandsFor t paths) where
       compared h d m at is (inr l) le =
           let here_too : m ≡ n = omega arith in
           let same : here.entry ≡ d = same_Some _ _ (sym here.at ∙ subst (λ k. slice_get t.entries k ≡ Some d) here_too at) in
-          let a_same : here.entry.question.a ≡ h.question.a = ap (λ (e : Judged). e.question.a) same ∙ sym (ap (λ (q : Question). q.a) is) in
-          let b_same : here.entry.question.b ≡ h.question.b = ap (λ (e : Judged). e.question.b) same ∙ sym (ap (λ (q : Question). q.b) is) in
+          let a_same : here.entry.question.a ≡ h.question.a = ap (λ (e : Judged). e.question.a) same ∙ sym (ap (λ (q : QuestionNumbers). q.a) is) in
+          let b_same : here.entry.question.b ≡ h.question.b = ap (λ (e : Judged). e.question.b) same ∙ sym (ap (λ (q : QuestionNumbers). q.b) is) in
           inr (a_same, omega arith)
-      compared h d m at is (inl l) le = go (subst (λ (q : Question). IsBefore (numbers_of here.entry.question) q) (sym is) (entries_rise n m here.entry d here.at at l))
+      compared h d m at is (inl l) le = go (subst (λ (q : QuestionNumbers). IsBefore (numbers_of here.entry.question) q) (sym is) (entries_rise n m here.entry d here.at at l))
         where
           ex : here.entry.question.x ≡ x
-          ex = sym (ap (λ (q : Question). q.x) here.is) ∙ here.exposed.from
+          ex = sym (ap (λ (q : QuestionNumbers). q.x) here.is) ∙ here.exposed.from
 
           ey : here.entry.question.y ≡ y
-          ey = sym (ap (λ (q : Question). q.y) here.is) ∙ here.exposed.to
+          ey = sym (ap (λ (q : QuestionNumbers). q.y) here.is) ∙ here.exposed.to
 
           go : IsBefore (numbers_of here.entry.question) h.question → Precedes here.entry h.question
           go (inl (inl k)) = let p = ex in let q = h.from in absurd (omega arith)
@@ -231,10 +231,10 @@ module _ (t : Table) (paths : List Path) (s : StandsFor t paths) where
   IsLeastExposed-from_first x y e f = record {
     exposed = here.exposed;
     is = here.is ∙ ap numbers_of same_question;
-    mine_kind = ap (λ (q : Asked). q.mine) (sym same_question) ∙ told.mine_kind ∙ ap (λ (a : Access). a.kind) (same_access paths here.entry.question.x here.entry.question.a told.mine here.exposed.mine told.asked.at_mine asked.at_mine);
-    their_kind = ap (λ (q : Asked). q.theirs) (sym same_question) ∙ told.their_kind ∙ ap (λ (a : Access). a.kind) (same_access paths here.entry.question.y here.entry.question.b told.theirs here.exposed.theirs told.asked.at_theirs asked.at_theirs);
+    mine_kind = ap (λ (q : Question). q.mine) (sym same_question) ∙ told.mine_kind ∙ ap (λ (a : Access). a.kind) (same_access paths here.entry.question.x here.entry.question.a told.mine here.exposed.mine told.asked.at_mine asked.at_mine);
+    their_kind = ap (λ (q : Question). q.theirs) (sym same_question) ∙ told.their_kind ∙ ap (λ (a : Access). a.kind) (same_access paths here.entry.question.y here.entry.question.b told.theirs here.exposed.theirs told.asked.at_theirs asked.at_theirs);
     sample = sample;
-    least = λ h. subst (λ (q : Asked). (q.a < h.question.a) ⊎ ((q.a ≡ h.question.a) × (q.b ≤ h.question.b))) same_question (place.least h);
+    least = λ h. subst (λ (q : Question). (q.a < h.question.a) ⊎ ((q.a ≡ h.question.a) × (q.b ≤ h.question.b))) same_question (place.least h);
   }
     where
       place : IsLeastAt paths t x y f.place
@@ -253,13 +253,13 @@ module _ (t : Table) (paths : List Path) (s : StandsFor t paths) where
       told = asked_of here.entry (contains_at t.entries f.place here.entry here.at)
 
       asked : AsksOf paths (numbers_of here.entry.question) here.exposed.mine here.exposed.theirs
-      asked = subst (λ (q : Question). AsksOf paths q here.exposed.mine here.exposed.theirs) here.is here.exposed.asked
+      asked = subst (λ (q : QuestionNumbers). AsksOf paths q here.exposed.mine here.exposed.theirs) here.is here.exposed.asked
 
       verdict : here.entry.verdict ≡ Exposed e.sample
       verdict = ap (λ (d : Judged). d.verdict) same ∙ f.verdict
 
       right : IsRight paths here.exposed.question here.entry.verdict
-      right = subst (λ (q : Question). IsRight paths q here.entry.verdict) (sym here.is) (right_of here.entry (contains_at t.entries f.place here.entry here.at))
+      right = subst (λ (q : QuestionNumbers). IsRight paths q here.entry.verdict) (sym here.is) (right_of here.entry (contains_at t.entries f.place here.entry here.at))
 
       sample : IsExposedBy paths here.exposed.question here.exposed.mine here.exposed.theirs e.sample
       sample = (subst (λ (v : Verdict). IsRight paths here.exposed.question v) verdict right) here.exposed.mine here.exposed.theirs here.exposed.asked

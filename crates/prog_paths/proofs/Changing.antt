@@ -12,7 +12,7 @@ use Rattle.prog_check.specs.declared.path.Kind.{Kind}
 use Rattle.prog_check.specs.declared.path.Kind.TheVariants.{Reads, Sees, Lacks, Writes, Adds, Keeps}
 use Rattle.prog_check.specs.declared.path.Term.TheVariants.{Param}
 use Rattle.prog_paths.specs.declared.accesses.places.Placed.{Placed}
-use Rattle.prog_paths.specs.declared.accesses.places.Question.{Question as Asked}
+use Rattle.prog_paths.specs.declared.accesses.places.Question.{Question}
 use Rattle.prog_paths.specs.Questions.{asks, kinds_depend, both_write, is_in_order, question_between, asked_by}
 use Rattle.prog_paths.specs.Tally.{of_table}
 use Rattle.prog_paths.specs.Changers.{changes, changers_of}
@@ -75,7 +75,7 @@ asked_changers first (p ∷ places) = go (cases_eq p.access.table first.access.t
     go : (p.access.table ≡ first.access.table) ⊎ (p.access.table ≡ first.access.table → ⊥) → (b : Bool) → changes p.access.kind ≡ b → asked_by first (changers_of first.access.table places) ≡ asked_by first places → asked_by first (changers_of first.access.table (p ∷ places)) ≡ asked_by first (p ∷ places)
     go (inl e) true c h =
         (λ i. asked_by first (cond (eq-eqb p.access.table first.access.table e i && c i) (p ∷ changers_of first.access.table places) (changers_of first.access.table places)))
-        ∙ ap (λ (l : List Asked). if asks first p then question_between first p ∷ l else l) h
+        ∙ ap (λ (l : List Question). if asks first p then question_between first p ∷ l else l) h
     go (inl e) false c h =
         (λ i. asked_by first (cond (eq-eqb p.access.table first.access.table e i && c i) (p ∷ changers_of first.access.table places) (changers_of first.access.table places)))
         ∙ left_out (asks-not first p c) h

@@ -4,10 +4,10 @@ use Rattle.std.proofs.lemmas.Option.{slice_get_within}
 use Rattle.prog_check.specs.declared.path.Kind.{Kind}
 use Rattle.prog_check.specs.declared.path.Access.{Access}
 use Rattle.prog_check.specs.declared.path.Path.{Path}
-use Rattle.prog_paths.specs.StaticGraph.{Question, AsksOf, AsksReadWrite, AsksWriteRead, AsksWriteWrite, HasQuestion, EdgeOf}
+use Rattle.prog_paths.specs.StaticGraph.{QuestionNumbers, AsksOf, AsksReadWrite, AsksWriteRead, AsksWriteWrite, HasQuestion, EdgeOf}
 use Rattle.prog_paths.specs.Questions.{Asks}
 
-pub HasQuestion-weaker : (asks : Question → Kind → Kind → Type 0) (P Q : Question → Access → Access → Type 0) (nodes : List Path) → ((q : Question) (mine theirs : Access) → AsksOf nodes q mine theirs → asks q mine.kind theirs.kind → P q mine theirs → Q q mine theirs) → (x y : ℕ) → HasQuestion asks P nodes x y → HasQuestion asks Q nodes x y
+pub HasQuestion-weaker : (asks : QuestionNumbers → Kind → Kind → Type 0) (P Q : QuestionNumbers → Access → Access → Type 0) (nodes : List Path) → ((q : QuestionNumbers) (mine theirs : Access) → AsksOf nodes q mine theirs → asks q mine.kind theirs.kind → P q mine theirs → Q q mine theirs) → (x y : ℕ) → HasQuestion asks P nodes x y → HasQuestion asks Q nodes x y
 HasQuestion-weaker asks P Q nodes f x y h = record {
   question = h.question;
   from = h.from;
@@ -19,7 +19,7 @@ HasQuestion-weaker asks P Q nodes f x y h = record {
   holds = f h.question h.mine h.theirs h.asked h.kinds h.holds;
 }
 
-pub EdgeOf-weaker : (P Q : Question → Access → Access → Type 0) (nodes : List Path) → ((q : Question) (mine theirs : Access) → AsksOf nodes q mine theirs → Asks q mine.kind theirs.kind → P q mine theirs → Q q mine theirs) → (x y : ℕ) → EdgeOf P nodes x y → EdgeOf Q nodes x y
+pub EdgeOf-weaker : (P Q : QuestionNumbers → Access → Access → Type 0) (nodes : List Path) → ((q : QuestionNumbers) (mine theirs : Access) → AsksOf nodes q mine theirs → Asks q mine.kind theirs.kind → P q mine theirs → Q q mine theirs) → (x y : ℕ) → EdgeOf P nodes x y → EdgeOf Q nodes x y
 EdgeOf-weaker P Q nodes f x y (inl h) = inl (HasQuestion-weaker AsksReadWrite P Q nodes (λ q m t a k. f q m t a (inl k)) x y h)
 EdgeOf-weaker P Q nodes f x y (inr (inl h)) = inr (inl (HasQuestion-weaker AsksWriteRead P Q nodes (λ q m t a k. f q m t a (inr (inl k))) y x h))
 EdgeOf-weaker P Q nodes f x y (inr (inr (inl h))) = inr (inr (inl (HasQuestion-weaker AsksWriteWrite P Q nodes (λ q m t a k. f q m t a (inr (inr k))) x y h)))
@@ -31,8 +31,8 @@ EdgeOf-weaker P Q nodes f x y (inr (inr (inr h))) = inr (inr (inr (HasQuestion-w
 abbrev pub AreInside : List Path → ℕ → ℕ → Type 0
 AreInside nodes x y = (x < length nodes) × (y < length nodes)
 
-module _ (P : Question → Access → Access → Type 0) (nodes : List Path) where
-  pub HasQuestion-inside : (asks : Question → Kind → Kind → Type 0) (x y : ℕ) → HasQuestion asks P nodes x y → AreInside nodes x y
+module _ (P : QuestionNumbers → Access → Access → Type 0) (nodes : List Path) where
+  pub HasQuestion-inside : (asks : QuestionNumbers → Kind → Kind → Type 0) (x y : ℕ) → HasQuestion asks P nodes x y → AreInside nodes x y
   HasQuestion-inside asks x y h = (
     subst (λ (n : ℕ). n < length nodes) h.from (slice_get_within nodes h.question.x h.asked.at_mine.0 h.asked.at_mine.1),
     subst (λ (n : ℕ). n < length nodes) h.to (slice_get_within nodes h.question.y h.asked.at_theirs.0 h.asked.at_theirs.1),

@@ -12,7 +12,7 @@ use Rattle.prog_check.specs.declared.path.Term.TheVariants.{Param, Unknown}
 use Rattle.prog_check.specs.declared.path.Access.{Access}
 use Rattle.prog_check.specs.declared.path.Path.{Path}
 use Rattle.prog_paths.specs.Meeting.{Assignment, IsOfI64, MeetsUnder, MayTouch, MayCover, number_under}
-use Rattle.prog_paths.specs.StaticGraph.{IsAccessOf, Question, HasQuestion, StaticEdge, IsCovered, IsVulnerable, here, onward, IsDangerous}
+use Rattle.prog_paths.specs.StaticGraph.{IsAccessOf, QuestionNumbers, HasQuestion, StaticEdge, IsCovered, IsVulnerable, here, onward, IsDangerous}
 
 -- ---- in short
 
@@ -53,8 +53,8 @@ of_node P nodes x p at h k a (q, is, got) =
 
 -- a question between accesses of two nodes
 pub has_question :
-    {asks : Question → Kind → Kind → Type 0} {P : Question → Access → Access → Type 0} {nodes : List Path} →
-    (q : Question) (from to : Path) (mine theirs : Access) → slice_get nodes q.x ≡ Some from → slice_get from.accesses q.a ≡ Some mine → slice_get nodes q.y ≡ Some to → slice_get to.accesses q.b ≡ Some theirs →
+    {asks : QuestionNumbers → Kind → Kind → Type 0} {P : QuestionNumbers → Access → Access → Type 0} {nodes : List Path} →
+    (q : QuestionNumbers) (from to : Path) (mine theirs : Access) → slice_get nodes q.x ≡ Some from → slice_get from.accesses q.a ≡ Some mine → slice_get nodes q.y ≡ Some to → slice_get to.accesses q.b ≡ Some theirs →
     mine.table ≡ theirs.table → asks q mine.kind theirs.kind → P q mine theirs → HasQuestion asks P nodes q.x q.y
 has_question q from to mine theirs from_is mine_is to_is theirs_is table kinds holds = record {
   question = q;

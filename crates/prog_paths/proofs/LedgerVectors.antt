@@ -11,7 +11,7 @@ use Rattle.prog_check.specs.declared.path.Term.TheVariants.{Param, Literal}
 use Rattle.prog_check.specs.declared.path.Access.{Access}
 use Rattle.prog_check.specs.declared.path.Path.{Path}
 use Rattle.prog_paths.specs.Meeting.{MeetsUnder, CanMeet, MayTouch}
-use Rattle.prog_paths.specs.StaticGraph.{IsAccessOf, Question, AsksReadWrite, AsksWriteRead, AsksWriteWrite, HasQuestion, StaticEdge, IsCovered, IsExposed, IsVulnerable, Leads, here, onward, IsDangerous}
+use Rattle.prog_paths.specs.StaticGraph.{IsAccessOf, QuestionNumbers, AsksReadWrite, AsksWriteRead, AsksWriteWrite, HasQuestion, StaticEdge, IsCovered, IsExposed, IsVulnerable, Leads, here, onward, IsDangerous}
 use Rattle.prog_paths.proofs.GraphVectors.{at_one, at_two, path, all_of, zero_cell, zeros_of_i64, of_node, has_question, meet_at_zero, CoversNothing, CoversIn, reads_cover_nothing}
 
 -- ---- the sets
@@ -116,7 +116,7 @@ of_nodes P [] h x k a (p, is, got) = absurd (cc)
 of_nodes P (q ∷ later) h zero k a at = of_node P (q ∷ later) 0 q refl h.0 k a at
 of_nodes P (q ∷ later) h (suc x) k a (p, is, got) = of_nodes P later h.1 x k a (p, is, got)
 
-module _ (asks : Question → Kind → Kind → Type 0) (P : Question → Access → Access → Type 0) (x y : ℕ) where
+module _ (asks : QuestionNumbers → Kind → Kind → Type 0) (P : QuestionNumbers → Access → Access → Type 0) (x y : ℕ) where
   mine_at : (h : HasQuestion asks P ledger x y) → IsAccessOf ledger x h.question.a h.mine
   mine_at h = subst (λ (n : ℕ). IsAccessOf ledger n h.question.a h.mine) h.from h.asked.at_mine
 
@@ -161,7 +161,7 @@ close_adds : (k : ℕ) (a : Access) → IsAccessOf ledger 1 k a → AddsClosed a
 close_adds = of_node AddsClosed ledger 1 close refl ((refl, refl), tt)
 
 -- what adds asks for no read-write dependency
-adds_ask_nothing : (q : Question) (a b : Kind) → a ≡ Adds → AsksReadWrite q a b → ⊥
+adds_ask_nothing : (q : QuestionNumbers) (a b : Kind) → a ≡ Adds → AsksReadWrite q a b → ⊥
 adds_ask_nothing q a b e (inl h) =
     let reads = h.0 in
     absurd (cc)
@@ -169,7 +169,7 @@ adds_ask_nothing q a b e (inr h) =
     let lacks = h.0 in
     absurd (cc)
 
-seen_of : (q : Question) (a b : Kind) → AsksWriteRead q a b → (a ≡ Reads) ⊎ (a ≡ Sees)
+seen_of : (q : QuestionNumbers) (a b : Kind) → AsksWriteRead q a b → (a ≡ Reads) ⊎ (a ≡ Sees)
 seen_of q a b (inl h) = inl h.0
 seen_of q a b (inr h) = inr h.0
 
@@ -187,7 +187,7 @@ no_edge_from_close y (inr (inr (inr h))) = ledger_has_no_write y h.question.a h.
 no_vulnerable_from_close : (y : ℕ) → IsVulnerable ledger 1 y → ⊥
 no_vulnerable_from_close y h = adds_ask_nothing h.question h.mine.kind h.theirs.kind (close_adds h.question.a h.mine (mine_at AsksReadWrite (IsExposed ledger) 1 y h)).0 h.kinds
 
-changed_of : (q : Question) (a b : Kind) → AsksReadWrite q a b → (b ≡ Writes) ⊎ (b ≡ Adds)
+changed_of : (q : QuestionNumbers) (a b : Kind) → AsksReadWrite q a b → (b ≡ Writes) ⊎ (b ≡ Adds)
 changed_of q a b (inl h) = h.1
 changed_of q a b (inr h) = inr h.1
 

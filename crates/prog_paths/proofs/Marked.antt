@@ -7,45 +7,45 @@ use Rattle.prog_check.specs.declared.path.Kind.{Kind}
 use Rattle.prog_check.specs.declared.path.Kind.TheVariants.{Reads, Sees, Lacks, Writes, Adds}
 use Rattle.prog_check.specs.declared.path.Access.{Access}
 use Rattle.prog_check.specs.declared.path.Path.{Path}
-use Rattle.prog_paths.specs.StaticGraph.{Question, IsAccessOf, AsksOf, AsksReadWrite, AsksWriteRead, AsksWriteWrite, HasQuestion, EdgeOf}
-use Rattle.prog_paths.specs.declared.accesses.places.Question.{Question as Asked}
+use Rattle.prog_paths.specs.StaticGraph.{QuestionNumbers, IsAccessOf, AsksOf, AsksReadWrite, AsksWriteRead, AsksWriteWrite, HasQuestion, EdgeOf}
+use Rattle.prog_paths.specs.declared.accesses.places.Question.{Question}
 use Rattle.prog_paths.specs.Questions.{Asks, asks_read_write, asks_write_read, both_write, numbers_of}
 use Rattle.prog_paths.specs.Listing.{IsAskedOf}
 use Rattle.prog_paths.specs.Marks.{mark_by, gives_edge, gives_vulnerable}
 
 -- ---- kinds
 
-pub read_write-true : (q : Question) (a b : Kind) → asks_read_write a b ≡ true → AsksReadWrite q a b
+pub read_write-true : (q : QuestionNumbers) (a b : Kind) → asks_read_write a b ≡ true → AsksReadWrite q a b
 read_write-true q Reads Writes e = inl (refl, inl refl)
 read_write-true q Reads Adds e = inl (refl, inr refl)
 read_write-true q Lacks Adds e = inr (refl, refl)
 read_write-true q _ _ e = absurd (false≢true e)
 
-pub true-read_write : (q : Question) (a b : Kind) → AsksReadWrite q a b → asks_read_write a b ≡ true
+pub true-read_write : (q : QuestionNumbers) (a b : Kind) → AsksReadWrite q a b → asks_read_write a b ≡ true
 true-read_write q a b (inl (x, inl y)) = rw (x, y) refl
 true-read_write q a b (inl (x, inr y)) = rw (x, y) refl
 true-read_write q a b (inr (x, y)) = rw (x, y) refl
 
-write_read-true : (q : Question) (a b : Kind) → asks_write_read a b ≡ true → AsksWriteRead q a b
+write_read-true : (q : QuestionNumbers) (a b : Kind) → asks_write_read a b ≡ true → AsksWriteRead q a b
 write_read-true q Reads Writes e = inl (refl, inl refl)
 write_read-true q Reads Adds e = inl (refl, inr refl)
 write_read-true q Sees Adds e = inr (refl, refl)
 write_read-true q _ _ e = absurd (false≢true e)
 
-true-write_read : (q : Question) (a b : Kind) → AsksWriteRead q a b → asks_write_read a b ≡ true
+true-write_read : (q : QuestionNumbers) (a b : Kind) → AsksWriteRead q a b → asks_write_read a b ≡ true
 true-write_read q a b (inl (x, inl y)) = rw (x, y) refl
 true-write_read q a b (inl (x, inr y)) = rw (x, y) refl
 true-write_read q a b (inr (x, y)) = rw (x, y) refl
 
 -- two that both write ask as such, if they ask at all
-writes-asked : (q : Question) (a b : Kind) → Asks q a b → both_write a b ≡ true → AsksWriteWrite q a b
+writes-asked : (q : QuestionNumbers) (a b : Kind) → Asks q a b → both_write a b ≡ true → AsksWriteWrite q a b
 writes-asked q a b (inr (inr h)) e = h
 writes-asked q a b (inl (inl (x, _))) e = absurd (false≢true (ap (λ (k : Kind). both_write k b) (sym x) ∙ e))
 writes-asked q a b (inl (inr (x, _))) e = absurd (false≢true (ap (λ (k : Kind). both_write k b) (sym x) ∙ e))
 writes-asked q a b (inr (inl (inl (x, _)))) e = absurd (false≢true (ap (λ (k : Kind). both_write k b) (sym x) ∙ e))
 writes-asked q a b (inr (inl (inr (x, _)))) e = absurd (false≢true (ap (λ (k : Kind). both_write k b) (sym x) ∙ e))
 
-true-writes : (q : Question) (a b : Kind) → AsksWriteWrite q a b → both_write a b ≡ true
+true-writes : (q : QuestionNumbers) (a b : Kind) → AsksWriteWrite q a b → both_write a b ≡ true
 true-writes q a b (x, y, _) = rw (x, y) refl
 
 -- ---- one question
@@ -57,9 +57,9 @@ same_access nodes x a one other h k =
     same_Some one other (sym h.2 ∙ subst (λ (p : Path). slice_get p.accesses a ≡ Some other) (sym path) k.2)
 
 -- questions of the paths with the same numbers are one
-pub same_asked : (nodes : List Path) (q r : Asked) → IsAskedOf nodes q → IsAskedOf nodes r → numbers_of q ≡ numbers_of r → q ≡ r
+pub same_asked : (nodes : List Path) (q r : Question) → IsAskedOf nodes q → IsAskedOf nodes r → numbers_of q ≡ numbers_of r → q ≡ r
 same_asked nodes q r a b e =
-    let own = subst (λ (p : Question). AsksOf nodes p a.mine a.theirs) e a.asked in
+    let own = subst (λ (p : QuestionNumbers). AsksOf nodes p a.mine a.theirs) e a.asked in
     let mine = same_access nodes r.x r.a a.mine b.mine own.at_mine b.asked.at_mine in
     let theirs = same_access nodes r.y r.b a.theirs b.theirs own.at_theirs b.asked.at_theirs in
     let mine_kind : q.mine ≡ r.mine = a.mine_kind ∙ ap (λ (c : Access). c.kind) mine ∙ sym b.mine_kind in
@@ -68,12 +68,12 @@ same_asked nodes q r a b e =
 
 -- ---- what a mark gives, the paths have
 
-module _ (P : Question → Access → Access → Type 0) (nodes : List Path) where
-  module _ (q : Asked) (a : IsAskedOf nodes q) (meets exposed : Bool) where
+module _ (P : QuestionNumbers → Access → Access → Type 0) (nodes : List Path) where
+  module _ (q : Question) (a : IsAskedOf nodes q) (meets exposed : Bool) where
     moved : (f : Kind → Kind → Bool) → f q.mine q.theirs ≡ true → f a.mine.kind a.theirs.kind ≡ true
     moved f h = subst (λ (k : Kind). f a.mine.kind k ≡ true) a.their_kind (subst (λ (k : Kind). f k q.theirs ≡ true) a.mine_kind h)
 
-    question : (asks : Question → Kind → Kind → Type 0) (x y : ℕ) → q.x ≡ x → q.y ≡ y → asks (numbers_of q) a.mine.kind a.theirs.kind → P (numbers_of q) a.mine a.theirs → HasQuestion asks P nodes x y
+    question : (asks : QuestionNumbers → Kind → Kind → Type 0) (x y : ℕ) → q.x ≡ x → q.y ≡ y → asks (numbers_of q) a.mine.kind a.theirs.kind → P (numbers_of q) a.mine a.theirs → HasQuestion asks P nodes x y
     question asks x y from to kinds holds = record { question = numbers_of q; from = from; to = to; mine = a.mine; theirs = a.theirs; asked = a.asked; kinds = kinds; holds = holds }
 
     pub edge-from_mark : (meets ≡ true → P (numbers_of q) a.mine a.theirs) → (x y : ℕ) → gives_edge x y (mark_by q meets exposed) ≡ true → EdgeOf P nodes x y
@@ -115,21 +115,21 @@ module _ (P : Question → Access → Access → Type 0) (nodes : List Path) whe
 
   -- a question of the paths with P gives an edge wherever it may meet
   pub record GivesEdge (x y : ℕ) : Type 0 where
-    pub question : Asked
+    pub question : Question
     pub asked : IsAskedOf nodes question
     pub holds : P (numbers_of question) asked.mine asked.theirs
     pub gives : (meets exposed : Bool) → meets ≡ true → gives_edge x y (mark_by question meets exposed) ≡ true
 
   -- a question of the paths with P gives a vulnerable edge wherever it counts as exposed
-  pub record GivesVulnerable (x y : ℕ) (of : Question) : Type 0 where
-    pub question : Asked
+  pub record GivesVulnerable (x y : ℕ) (of : QuestionNumbers) : Type 0 where
+    pub question : Question
     pub is : of ≡ numbers_of question
     pub asked : IsAskedOf nodes question
     pub holds : P (numbers_of question) asked.mine asked.theirs
     pub gives : (meets exposed : Bool) → exposed ≡ true → gives_vulnerable x y (mark_by question meets exposed) ≡ true
 
-  module _ (asks : Question → Kind → Kind → Type 0) (x y : ℕ) (h : HasQuestion asks P nodes x y) (of : Asks h.question h.mine.kind h.theirs.kind) where
-    as_asked : Asked
+  module _ (asks : QuestionNumbers → Kind → Kind → Type 0) (x y : ℕ) (h : HasQuestion asks P nodes x y) (of : Asks h.question h.mine.kind h.theirs.kind) where
+    as_asked : Question
     as_asked = record { x = h.question.x; a = h.question.a; y = h.question.y; b = h.question.b; mine = h.mine.kind; theirs = h.theirs.kind }
 
     is_asked : IsAskedOf nodes as_asked

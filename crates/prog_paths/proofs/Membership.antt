@@ -7,9 +7,9 @@ use Rattle.prog_check.specs.declared.path.Kind.{Kind}
 use Rattle.prog_check.specs.declared.path.Kind.TheVariants.{Reads, Sees, Lacks, Writes, Adds}
 use Rattle.prog_check.specs.declared.path.Access.{Access}
 use Rattle.prog_check.specs.declared.path.Path.{Path}
-use Rattle.prog_paths.specs.StaticGraph.{Question, IsInOrder}
+use Rattle.prog_paths.specs.StaticGraph.{QuestionNumbers, IsInOrder}
 use Rattle.prog_paths.specs.declared.accesses.places.Placed.{Placed}
-use Rattle.prog_paths.specs.declared.accesses.places.Question.{Question as Asked}
+use Rattle.prog_paths.specs.declared.accesses.places.Question.{Question}
 use Rattle.prog_paths.specs.Questions.{Asks, asks, kinds_depend, both_write, is_in_order, question_between, placed_from, all_from, asked_by, asked_among, questions_of}
 use Rattle.prog_paths.specs.Questions.{numbers_of}
 use Rattle.prog_paths.specs.Places.{IsAt}
@@ -19,15 +19,15 @@ use Rattle.prog_tree.proofs.Elements.{IsMember, member_from_contains, contains_f
 
 -- ---- what is asked
 
-into_if : (b : Bool) (q x : Asked) (l : List Asked) → IsMember q l → IsMember q (if b then x ∷ l else l)
+into_if : (b : Bool) (q x : Question) (l : List Question) → IsMember q l → IsMember q (if b then x ∷ l else l)
 into_if true q x l i = inr i
 into_if false q x l i = i
 
-first_if : (b : Bool) (q x : Asked) (l : List Asked) → b ≡ true → x ≡ q → IsMember q (if b then x ∷ l else l)
+first_if : (b : Bool) (q x : Question) (l : List Question) → b ≡ true → x ≡ q → IsMember q (if b then x ∷ l else l)
 first_if true q x l h e = inl e
 first_if false q x l h e = absurd (false≢true h)
 
-out_of_if : (b : Bool) (q x : Asked) (l : List Asked) → IsMember q (if b then x ∷ l else l) → ((b ≡ true) × (x ≡ q)) ⊎ IsMember q l
+out_of_if : (b : Bool) (q x : Question) (l : List Question) → IsMember q (if b then x ∷ l else l) → ((b ≡ true) × (x ≡ q)) ⊎ IsMember q l
 out_of_if true q x l (inl e) = inl (refl, e)
 out_of_if true q x l (inr i) = inr i
 out_of_if false q x l i = inr i
@@ -38,10 +38,10 @@ into_by first second (s ∷ rest) h (inl e) = first_if (asks first s) _ _ (asked
 into_by first second (s ∷ rest) h (inr i) = into_if (asks first s) _ _ (asked_by first rest) (into_by first second rest h i)
 
 -- one that some place of a list is asked about
-abbrev IsBy : Placed → List Placed → Asked → Type 0
+abbrev IsBy : Placed → List Placed → Question → Type 0
 IsBy first seconds q = (second : Placed) × IsMember second seconds × (asks first second ≡ true) × (question_between first second ≡ q)
 
-out_of_by : (first : Placed) (seconds : List Placed) (q : Asked) → IsMember q (asked_by first seconds) → IsBy first seconds q
+out_of_by : (first : Placed) (seconds : List Placed) (q : Question) → IsMember q (asked_by first seconds) → IsBy first seconds q
 out_of_by first [] q i = absurd i
 out_of_by first (s ∷ rest) q i = go (out_of_if (asks first s) q (question_between first s) (asked_by first rest) i) (λ k. out_of_by first rest q k)
   where
@@ -56,10 +56,10 @@ into_among (f ∷ firsts) seconds first second (inl e) j h =
     (member_left _ (asked_by first seconds) (asked_among firsts seconds) (into_by first second seconds h j))
 into_among (f ∷ firsts) seconds first second (inr i) j h = member_right _ (asked_by f seconds) (asked_among firsts seconds) (into_among firsts seconds first second i j h)
 
-abbrev IsAmong : List Placed → List Placed → Asked → Type 0
+abbrev IsAmong : List Placed → List Placed → Question → Type 0
 IsAmong firsts seconds q = (first : Placed) × IsMember first firsts × IsBy first seconds q
 
-out_of_among : (firsts seconds : List Placed) (q : Asked) → IsMember q (asked_among firsts seconds) → IsAmong firsts seconds q
+out_of_among : (firsts seconds : List Placed) (q : Question) → IsMember q (asked_among firsts seconds) → IsAmong firsts seconds q
 out_of_among [] seconds q i = absurd i
 out_of_among (f ∷ firsts) seconds q i = go (member_either q (asked_by f seconds) (asked_among firsts seconds) i) (λ k. out_of_among firsts seconds q k)
   where
@@ -100,7 +100,7 @@ in_places paths p at =
 
 -- ---- the test of kinds and tables
 
-pub depends-Asks : (q : Question) (mine theirs : Kind) → kinds_depend mine theirs ≡ true → Asks q mine theirs
+pub depends-Asks : (q : QuestionNumbers) (mine theirs : Kind) → kinds_depend mine theirs ≡ true → Asks q mine theirs
 depends-Asks q Reads Writes e = inl (inl (refl, inl refl))
 depends-Asks q Reads Adds e = inl (inl (refl, inr refl))
 depends-Asks q Lacks Adds e = inl (inr (refl, refl))
@@ -155,11 +155,11 @@ asks-from_Asks first second table h = and_from (first.access.table == second.acc
 
 -- ---- the law
 
-asked-from_in : (paths : List Path) (q : Asked) → IsMember q (questions_of paths) → IsAskedOf paths q
+asked-from_in : (paths : List Path) (q : Question) → IsMember q (questions_of paths) → IsAskedOf paths q
 asked-from_in paths q i =
     let w = out_of_among (all_from 0 paths) (all_from 0 paths) q i in
     let v = w.2 in
-    subst (λ (r : Asked). IsAskedOf paths r) v.3
+    subst (λ (r : Question). IsAskedOf paths r) v.3
     (of_places w.0 v.0 (member_all (λ p. IsAt paths p) (all_from 0 paths) w.0 (all_places_stand paths) w.1) (member_all (λ p. IsAt paths p) (all_from 0 paths) v.0 (all_places_stand paths) v.1) v.2)
   where
     of_places : (first second : Placed) → IsAt paths first → IsAt paths second → asks first second ≡ true → IsAskedOf paths (question_between first second)
@@ -167,14 +167,14 @@ asked-from_in paths q i =
         let k = Asks-from_asks first second e in
         record { mine = first.access; theirs = second.access; asked = record { at_mine = a; at_theirs = b; table = k.0 }; mine_kind = refl; their_kind = refl; asks = k.1 }
 
-in-from_asked : (paths : List Path) (q : Asked) → IsAskedOf paths q → IsMember q (questions_of paths)
+in-from_asked : (paths : List Path) (q : Question) → IsAskedOf paths q → IsMember q (questions_of paths)
 in-from_asked paths q h =
     let first : Placed = placed q.x q.a h.mine in
     let second : Placed = placed q.y q.b h.theirs in
     let own = into_among (all_from 0 paths) (all_from 0 paths) first second (in_places paths first h.asked.at_mine) (in_places paths second h.asked.at_theirs) (asks-from_Asks first second h.asked.table h.asks) in
     let mine = h.mine_kind in
     let theirs = h.their_kind in
-    subst (λ (r : Asked). IsMember r (questions_of paths)) (λ i. record { x = q.x; a = q.a; y = q.y; b = q.b; mine = sym mine i; theirs = sym theirs i }) own
+    subst (λ (r : Question). IsMember r (questions_of paths)) (λ i. record { x = q.x; a = q.a; y = q.y; b = q.b; mine = sym mine i; theirs = sym theirs i }) own
 
 pub law_of_listing : LawOfListing
 law_of_listing paths q = (λ c. asked-from_in paths q (member_from_contains (questions_of paths) q c), λ h. contains_from_member (questions_of paths) q (in-from_asked paths q h))

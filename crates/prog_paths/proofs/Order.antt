@@ -5,17 +5,17 @@ use Rattle.std.proofs.lemmas.List.Elements.{All-nil, All-cons, All-head, All-tai
 use Rattle.std.proofs.lemmas.Option.{none-some, same_Some, slice_get_within, get_or_from_slice_get}
 use Rattle.prog_check.specs.declared.path.Access.{Access}
 use Rattle.prog_check.specs.declared.path.Path.{Path}
-use Rattle.prog_paths.specs.StaticGraph.{Question}
+use Rattle.prog_paths.specs.StaticGraph.{QuestionNumbers}
 use Rattle.prog_paths.specs.declared.accesses.places.Placed.{Placed}
-use Rattle.prog_paths.specs.declared.accesses.places.Question.{Question as Asked}
+use Rattle.prog_paths.specs.declared.accesses.places.Question.{Question}
 use Rattle.prog_paths.specs.Questions.{asks, question_between, placed_from, all_from, asked_by, asked_among, numbers_of}
 use Rattle.prog_paths.specs.Listing.{IsPlaceBefore, IsBefore, RiseBy, LawOfOrder}
 use Rattle.prog_paths.proofs.Questions.{placed, if_append}
 
-abbrev Before : Asked → Asked → Type 0
+abbrev Before : Question → Question → Type 0
 Before p q = IsBefore (numbers_of p) (numbers_of q)
 
-abbrev Rise : List Asked → Type 0
+abbrev Rise : List Question → Type 0
 Rise = RiseBy numbers_of
 
 -- ---- places rise
@@ -53,12 +53,12 @@ all_rise n (path ∷ paths) = node_rises n 0 path.accesses (all_from (n + 1) pat
 
 -- ---- questions rise
 
-all_if : (P : Asked → Type 0) (b : Bool) (x : Asked) (l : List Asked) → P x → All P l → All P (if b then x ∷ l else l)
+all_if : (P : Question → Type 0) (b : Bool) (x : Question) (l : List Question) → P x → All P l → All P (if b then x ∷ l else l)
 all_if P true x l h k = All-cons P x l h k
 all_if P false x l h k = k
 
 -- what one place is asked about stands behind a question that is before each
-before_by : (q : Asked) (first : Placed) (seconds : List Placed) → All (λ s. Before q (question_between first s)) seconds → All (λ later. Before q later) (asked_by first seconds)
+before_by : (q : Question) (first : Placed) (seconds : List Placed) → All (λ s. Before q (question_between first s)) seconds → All (λ later. Before q later) (asked_by first seconds)
 before_by q first [] h = All-nil (λ later. Before q later)
 before_by q first (s ∷ rest) h =
     all_if (λ later. Before q later) (asks first s) (question_between first s) (asked_by first rest) (All-head (λ s'. Before q (question_between first s')) s rest h) (before_by q first rest (All-tail (λ s'. Before q (question_between first s')) s rest h))
@@ -71,7 +71,7 @@ all_map : (P Q : Placed → Type 0) (xs : List Placed) → ((p : Placed) → P p
 all_map P Q [] f h = All-nil Q
 all_map P Q (x ∷ xs) f h = All-cons Q x xs (f x (All-head P x xs h)) (all_map P Q xs f (All-tail P x xs h))
 
-before_among : (q : Asked) (firsts seconds : List Placed) → All (λ f. IsPlaceBefore q.x q.a f.node f.number) firsts → All (λ later. Before q later) (asked_among firsts seconds)
+before_among : (q : Question) (firsts seconds : List Placed) → All (λ f. IsPlaceBefore q.x q.a f.node f.number) firsts → All (λ later. Before q later) (asked_among firsts seconds)
 before_among q [] seconds h = All-nil (λ later. Before q later)
 before_among q (f ∷ firsts) seconds h =
     let head = All-head (λ g. IsPlaceBefore q.x q.a g.node g.number) f firsts h in
@@ -79,16 +79,16 @@ before_among q (f ∷ firsts) seconds h =
     All-append (λ later. Before q later) (asked_by f seconds) (asked_among firsts seconds)
     (before_by q f seconds (all_of (λ s. Before q (question_between f s)) seconds (λ s. inl head))) (before_among q firsts seconds tail)
 
-rising_if : (b : Bool) (x : Asked) (l : List Asked) → All (λ later. Before x later) l → Rise l → Rise (if b then x ∷ l else l)
+rising_if : (b : Bool) (x : Question) (l : List Question) → All (λ later. Before x later) l → Rise l → Rise (if b then x ∷ l else l)
 rising_if true x l h r = (h, r)
 rising_if false x l h r = r
 
-by_rises : (first : Placed) (seconds : List Placed) (rest : List Asked) → PlacesRise seconds → Rise rest → ((q : Asked) → q.x ≡ first.node → q.a ≡ first.number → All (λ later. Before q later) rest) → Rise (asked_by first seconds ++ rest)
+by_rises : (first : Placed) (seconds : List Placed) (rest : List Question) → PlacesRise seconds → Rise rest → ((q : Question) → q.x ≡ first.node → q.a ≡ first.number → All (λ later. Before q later) rest) → Rise (asked_by first seconds ++ rest)
 by_rises first [] rest p r h = r
 by_rises first (s ∷ seconds) rest p r h =
-    let q : Asked = question_between first s in
+    let q : Question = question_between first s in
     let behind = before_by q first seconds (all_map (λ later. PlaceBefore s later) (λ later. Before q (question_between first later)) seconds (λ later k. inr (refl, refl, k)) p.0) in
-    subst (λ (l : List Asked). Rise l) (sym (if_append (asks first s) q (asked_by first seconds) rest))
+    subst (λ (l : List Question). Rise l) (sym (if_append (asks first s) q (asked_by first seconds) rest))
     (rising_if (asks first s) q (asked_by first seconds ++ rest) (All-append (λ later. Before q later) (asked_by first seconds) rest behind (h q refl refl)) (by_rises first seconds rest p.1 r h))
 
 among_rises : (firsts seconds : List Placed) → PlacesRise firsts → PlacesRise seconds → Rise (asked_among firsts seconds)
@@ -102,7 +102,7 @@ law_of_order paths = among_rises (all_from 0 paths) (all_from 0 paths) (all_rise
 
 -- ---- places of what rises
 
-pub rise-between : {A : Type 0} (question : A → Question) (xs : List A) → RiseBy question xs → (j k : ℕ) (x y : A) → slice_get xs j ≡ Some x → slice_get xs k ≡ Some y → j < k → IsBefore (question x) (question y)
+pub rise-between : {A : Type 0} (question : A → QuestionNumbers) (xs : List A) → RiseBy question xs → (j k : ℕ) (x y : A) → slice_get xs j ≡ Some x → slice_get xs k ≡ Some y → j < k → IsBefore (question x) (question y)
 rise-between question [] rise j k x y at_j at_k lt = absurd (none-some x at_j)
 rise-between question (d ∷ rest) rise j zero x y at_j at_k lt = absurd (omega (arith, lt))
 rise-between {A = A} question (d ∷ rest) rise zero (suc k) x y at_j at_k lt =

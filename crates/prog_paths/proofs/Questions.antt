@@ -7,7 +7,7 @@ use Rattle.std.proofs.lemmas.List.Elements.{All-nil, All-cons, All-append}
 use Rattle.prog_check.specs.declared.path.Access.{Access}
 use Rattle.prog_check.specs.declared.path.Path.{Path}
 use Rattle.prog_paths.specs.declared.accesses.places.Placed.{Placed}
-use Rattle.prog_paths.specs.declared.accesses.places.Question.{Question as Asked}
+use Rattle.prog_paths.specs.declared.accesses.places.Question.{Question}
 use Rattle.prog_paths.specs.Questions.{asks, question_between, placed_from, all_from, accesses_by, program_from, asked_by, asked_among}
 use Rattle.prog_paths.specs.Places.{IsAt}
 
@@ -82,15 +82,15 @@ all_places_stand paths = all_at paths 0 paths (continues-own paths)
 
 -- ---- what is asked of a list, one more or one part more
 
-pub if_yes : (b : Bool) (q : Asked) (l : List Asked) → b ≡ true → (if b then q ∷ l else l) ≡ q ∷ l
+pub if_yes : (b : Bool) (q : Question) (l : List Question) → b ≡ true → (if b then q ∷ l else l) ≡ q ∷ l
 if_yes true q l e = refl
 if_yes false q l e = absurd (false≢true e)
 
-pub if_no : (b : Bool) (q : Asked) (l : List Asked) → b ≡ false → (if b then q ∷ l else l) ≡ l
+pub if_no : (b : Bool) (q : Question) (l : List Question) → b ≡ false → (if b then q ∷ l else l) ≡ l
 if_no true q l e = absurd (false≢true (sym e))
 if_no false q l e = refl
 
-pub if_append : (b : Bool) (q : Asked) (l r : List Asked) → (if b then q ∷ l else l) ++ r ≡ (if b then q ∷ (l ++ r) else l ++ r)
+pub if_append : (b : Bool) (q : Question) (l r : List Question) → (if b then q ∷ l else l) ++ r ≡ (if b then q ∷ (l ++ r) else l ++ r)
 if_append true q l r = refl
 if_append false q l r = refl
 
@@ -106,9 +106,9 @@ asked_among-next n xs seconds d lt = ap (λ (l : List Placed). asked_among l sec
 pub asked_by-append : (first : Placed) (xs ys : List Placed) → asked_by first (xs ++ ys) ≡ asked_by first xs ++ asked_by first ys
 asked_by-append first [] ys = refl
 asked_by-append first (x ∷ xs) ys =
-    ap (λ (l : List Asked). if asks first x then question_between first x ∷ l else l) (asked_by-append first xs ys)
+    ap (λ (l : List Question). if asks first x then question_between first x ∷ l else l) (asked_by-append first xs ys)
     ∙ sym (if_append (asks first x) (question_between first x) (asked_by first xs) (asked_by first ys))
 
 pub asked_among-append : (xs ys seconds : List Placed) → asked_among (xs ++ ys) seconds ≡ asked_among xs seconds ++ asked_among ys seconds
 asked_among-append [] ys seconds = refl
-asked_among-append (x ∷ xs) ys seconds = ap (λ (l : List Asked). asked_by x seconds ++ l) (asked_among-append xs ys seconds) ∙ sym (append_assoc (asked_by x seconds) (asked_among xs seconds) (asked_among ys seconds))
+asked_among-append (x ∷ xs) ys seconds = ap (λ (l : List Question). asked_by x seconds ++ l) (asked_among-append xs ys seconds) ∙ sym (append_assoc (asked_by x seconds) (asked_among xs seconds) (asked_among ys seconds))

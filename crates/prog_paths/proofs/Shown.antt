@@ -15,7 +15,7 @@ use Rattle.prog_check.specs.declared.path.Column.{Column}
 use Rattle.prog_check.specs.declared.path.Access.{Access}
 use Rattle.prog_check.specs.declared.path.Path.{Path}
 use Rattle.prog_paths.specs.Meeting.{Assignment, MeetsUnder, CanMeet, MayTouch, MayCover, IsSingle, AreSameCell, second_under}
-use Rattle.prog_paths.specs.StaticGraph.{Question}
+use Rattle.prog_paths.specs.StaticGraph.{QuestionNumbers}
 use Rattle.prog_paths.specs.Facts.{question_facts, AreEqualWhereTheyMeet, EntailsEqual}
 use Rattle.prog_paths.proofs.Facts.{law_of_questions, law_of_equal_terms}
 use Rattle.prog_paths.specs.Questions.{Asks, ChangesSingleCells}
@@ -86,7 +86,7 @@ single_at path k a h at may =
     subst (λ (b : Access). MayTouch b → IsSingle b) (get_or_from_slice_get path.accesses k a a at) (h k a inside) may
 
 -- what a question asks of, its second access changes
-pub may_touch-second : (q : Question) (mine theirs : Access) → Asks q mine.kind theirs.kind → MayTouch theirs
+pub may_touch-second : (q : QuestionNumbers) (mine theirs : Access) → Asks q mine.kind theirs.kind → MayTouch theirs
 may_touch-second q mine theirs (inl (inl k)) = changes k.1
   where
     changes : (theirs.kind ≡ Writes) ⊎ (theirs.kind ≡ Adds) → MayTouch theirs

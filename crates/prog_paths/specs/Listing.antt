@@ -4,12 +4,12 @@ use Rattle.prog_tree.specs.Syntax.{DraftTree}
 use Rattle.prog_check.specs.Paths.{paths_of}
 use Rattle.prog_check.specs.declared.path.Access.{Access}
 use Rattle.prog_check.specs.declared.path.Path.{Path}
-use Rattle.prog_paths.specs.StaticGraph.{Question, AsksOf}
-use Rattle.prog_paths.specs.declared.accesses.places.Question.{Question as Asked}
+use Rattle.prog_paths.specs.StaticGraph.{QuestionNumbers, AsksOf}
+use Rattle.prog_paths.specs.declared.accesses.places.Question.{Question}
 use Rattle.prog_paths.specs.Questions.{Asks, ChangesSingleCells, numbers_of, questions_of}
 
 -- a question of the paths, with the kinds of its accesses
-pub record IsAskedOf (paths : List Path) (q : Asked) : Type 0 where
+pub record IsAskedOf (paths : List Path) (q : Question) : Type 0 where
   pub mine : Access
   pub theirs : Access
   pub asked : AsksOf paths (numbers_of q) mine theirs
@@ -22,7 +22,7 @@ abbrev pub IsPlaceBefore : ℕ → ℕ → ℕ → ℕ → Type 0
 IsPlaceBefore x a y b = (x < y) ⊎ ((x ≡ y) × (a < b))
 
 -- a question stands before another, by the first access and then by the second
-abbrev pub IsBefore : Question → Question → Type 0
+abbrev pub IsBefore : QuestionNumbers → QuestionNumbers → Type 0
 IsBefore p q = IsPlaceBefore p.x p.a q.x q.a ⊎ ((p.x ≡ q.x) × (p.a ≡ q.a) × IsPlaceBefore p.y p.b q.y q.b)
 
 -- the one list of nodes is the other, or stands before it in node order
@@ -32,13 +32,13 @@ IsAtMost (x ∷ xs) [] = ⊥
 IsAtMost (x ∷ xs) (y ∷ ys) = (x < y) ⊎ ((x ≡ y) × IsAtMost xs ys)
 
 -- the question of each thing stands before those of all that follow
-abbrev pub RiseBy : {A : Type 0} → (A → Question) → List A → Type 0
+abbrev pub RiseBy : {A : Type 0} → (A → QuestionNumbers) → List A → Type 0
 RiseBy question [] = Unit {0}
 RiseBy question (x ∷ rest) = All (λ later. IsBefore (question x) (question later)) rest × RiseBy question rest
 
 -- the list has a question just where the paths ask it
 abbrev pub LawOfListing : Type 0
-LawOfListing = (paths : List Path) (q : Asked) → Contains (questions_of paths) q ↔ IsAskedOf paths q
+LawOfListing = (paths : List Path) (q : Question) → Contains (questions_of paths) q ↔ IsAskedOf paths q
 
 -- the list rises
 abbrev pub LawOfOrder : Type 0

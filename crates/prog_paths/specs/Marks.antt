@@ -1,13 +1,13 @@
 -- What a question gives: an edge from its first node to its second, one back, a vulnerable one.
 use Rattle.std.specs.Prelude.{ℕ, Bool, ◌||◌, ◌&&◌, ◌==◌}
 use Rattle.order_facts.specs.Square.{Enters}
-use Rattle.prog_paths.specs.declared.accesses.places.Question.{Question as Asked}
+use Rattle.prog_paths.specs.declared.accesses.places.Question.{Question}
 use Rattle.prog_paths.specs.declared.accesses.mark.EdgeTables.{EdgeTables}
 use Rattle.prog_paths.specs.declared.accesses.mark.Mark.{Mark}
 use Rattle.prog_paths.specs.Questions.{asks_read_write, asks_write_read, both_write}
 
 -- what a question gives, by whether its accesses may meet and whether it counts as exposed
-abbrev pub mark_by : Asked → (meets exposed : Bool) → Mark
+abbrev pub mark_by : Question → (meets exposed : Bool) → Mark
 mark_by q meets exposed = record {
   x = q.x;
   y = q.y;

@@ -5,16 +5,16 @@ use Rattle.prog_check.specs.declared.path.Kind.TheVariants.{Reads, Sees, Lacks, 
 use Rattle.prog_check.specs.declared.path.Access.{Access}
 use Rattle.prog_check.specs.declared.path.Path.{Path}
 use Rattle.prog_paths.specs.Meeting.{MayTouch, IsSingle}
-use Rattle.prog_paths.specs.StaticGraph.{Question, AsksOf, AsksReadWrite, AsksWriteRead, AsksWriteWrite}
+use Rattle.prog_paths.specs.StaticGraph.{QuestionNumbers, AsksOf, AsksReadWrite, AsksWriteRead, AsksWriteWrite}
 use Rattle.prog_paths.specs.declared.accesses.places.Placed.{Placed}
-use Rattle.prog_paths.specs.declared.accesses.places.Question.{Question as Asked}
+use Rattle.prog_paths.specs.declared.accesses.places.Question.{Question}
 
 -- what the kinds of two accesses ask: whether instances can have some dependency by them
-abbrev pub Asks : Question → Kind → Kind → Type 0
+abbrev pub Asks : QuestionNumbers → Kind → Kind → Type 0
 Asks q mine theirs = AsksReadWrite q mine theirs ⊎ AsksWriteRead q mine theirs ⊎ AsksWriteWrite q mine theirs
 
 -- a question of the paths: its two accesses are there, use one table, and ask something
-pub record IsQuestion (nodes : List Path) (q : Question) : Type 0 where
+pub record IsQuestion (nodes : List Path) (q : QuestionNumbers) : Type 0 where
   pub mine : Access
   pub theirs : Access
   pub asked : AsksOf nodes q mine theirs
@@ -31,7 +31,7 @@ abbrev pub two : Path → Path → List Path
 two x y = x ∷ y ∷ []
 
 -- access `a` of the first of two paths against access `b` of the second
-abbrev pub between : ℕ → ℕ → Question
+abbrev pub between : ℕ → ℕ → QuestionNumbers
 between a b = record { x = 0; a = a; y = 1; b = b }
 
 -- ---- all questions of a list of paths
@@ -72,7 +72,7 @@ asks first second =
     || (both_write first.access.kind second.access.kind && is_in_order first second))
 
 -- the question of an access against another
-abbrev pub question_between : Placed → Placed → Asked
+abbrev pub question_between : Placed → Placed → Question
 question_between first second = record {
   x = first.node;
   a = first.number;
@@ -104,20 +104,20 @@ program_from program node (path ∷ rest) =
     placed_from node 0 (accesses_by program path) ++ program_from program (node + 1) rest
 
 -- what one access asks of each of some
-abbrev pub asked_by : Placed → List Placed → List Asked
+abbrev pub asked_by : Placed → List Placed → List Question
 asked_by first [] = []
 asked_by first (second ∷ rest) =
     if asks first second then question_between first second ∷ asked_by first rest else asked_by first rest
 
 -- what each of some accesses asks of each of others
-abbrev pub asked_among : List Placed → List Placed → List Asked
+abbrev pub asked_among : List Placed → List Placed → List Question
 asked_among [] seconds = []
 asked_among (first ∷ rest) seconds = asked_by first seconds ++ asked_among rest seconds
 
 -- a question's four numbers
-abbrev pub numbers_of : Asked → Question
+abbrev pub numbers_of : Question → QuestionNumbers
 numbers_of q = record { x = q.x; a = q.a; y = q.y; b = q.b }
 
 -- all questions of a list of paths, by the first access and then by the second
-abbrev pub questions_of : List Path → List Asked
+abbrev pub questions_of : List Path → List Question
 questions_of paths = asked_among (all_from 0 paths) (all_from 0 paths)

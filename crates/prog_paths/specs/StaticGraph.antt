@@ -14,38 +14,38 @@ IsAccessOf nodes x a access =
     (path : Path) × (slice_get nodes x ≡ Some path) × (slice_get path.accesses a ≡ Some access)
 
 -- access `a` of node `x` against access `b` of node `y`
-pub record Question : Type 0 where
+pub record QuestionNumbers : Type 0 where
   pub x : ℕ
   pub a : ℕ
   pub y : ℕ
   pub b : ℕ
 
 -- what the first access does not see, the second changes: a read-write dependency, first to second
-abbrev pub AsksReadWrite : Question → Kind → Kind → Type 0
+abbrev pub AsksReadWrite : QuestionNumbers → Kind → Kind → Type 0
 AsksReadWrite q a b = ((a ≡ Reads) × ((b ≡ Writes) ⊎ (b ≡ Adds))) ⊎ ((a ≡ Lacks) × (b ≡ Adds))
 
 -- what the second changes, the first sees: a write-read dependency, second to first
-abbrev pub AsksWriteRead : Question → Kind → Kind → Type 0
+abbrev pub AsksWriteRead : QuestionNumbers → Kind → Kind → Type 0
 AsksWriteRead q a b = ((a ≡ Reads) × ((b ≡ Writes) ⊎ (b ≡ Adds))) ⊎ ((a ≡ Sees) × (b ≡ Adds))
 
 -- the first access stands at the second or before it, by node and then by number
-abbrev pub IsInOrder : Question → Type 0
+abbrev pub IsInOrder : QuestionNumbers → Type 0
 IsInOrder q = (q.x < q.y) ⊎ ((q.x ≡ q.y) × (q.a ≤ q.b))
 
 -- both change a cell: a write-write dependency, either way; such a pair is asked once
-abbrev pub AsksWriteWrite : Question → Kind → Kind → Type 0
+abbrev pub AsksWriteWrite : QuestionNumbers → Kind → Kind → Type 0
 AsksWriteWrite q a b = (a ≡ Writes) × (b ≡ Writes) × IsInOrder q
 
 -- the two accesses that a question asks about, which use one table
-pub record AsksOf (nodes : List Path) (q : Question) (mine theirs : Access) : Type 0 where
+pub record AsksOf (nodes : List Path) (q : QuestionNumbers) (mine theirs : Access) : Type 0 where
   pub at_mine : IsAccessOf nodes q.x q.a mine
   pub at_theirs : IsAccessOf nodes q.y q.b theirs
   pub table : mine.table ≡ theirs.table
 
 -- a question of node x against node y, of these kinds, whose accesses are P
-pub record HasQuestion (asks : Question → Kind → Kind → Type 0) (P : Question → Access → Access → Type 0)
+pub record HasQuestion (asks : QuestionNumbers → Kind → Kind → Type 0) (P : QuestionNumbers → Access → Access → Type 0)
     (nodes : List Path) (x y : ℕ) : Type 0 where
-  pub question : Question
+  pub question : QuestionNumbers
   pub from : question.x ≡ x
   pub to : question.y ≡ y
   pub mine : Access
@@ -57,7 +57,7 @@ pub record HasQuestion (asks : Question → Kind → Kind → Type 0) (P : Quest
 -- ---- edges
 
 -- the edges that the questions with P give
-abbrev pub EdgeOf : (Question → Access → Access → Type 0) → List Path → ℕ → ℕ → Type 0
+abbrev pub EdgeOf : (QuestionNumbers → Access → Access → Type 0) → List Path → ℕ → ℕ → Type 0
 EdgeOf P nodes x y =
     HasQuestion AsksReadWrite P nodes x y ⊎ HasQuestion AsksWriteRead P nodes y x
     ⊎ HasQuestion AsksWriteWrite P nodes x y ⊎ HasQuestion AsksWriteWrite P nodes y x
@@ -79,7 +79,7 @@ pub record IsCovered (nodes : List Path) (x y : ℕ) (mine theirs : Access) : Ty
   pub same : (v w : Assignment) → MeetsUnder v w mine theirs → AreSameCell v of_first w of_second
 
 -- the question whether a read-write dependency is possible is not covered, and can meet
-abbrev pub IsExposed : List Path → Question → Access → Access → Type 0
+abbrev pub IsExposed : List Path → QuestionNumbers → Access → Access → Type 0
 IsExposed nodes q mine theirs = CanMeet mine theirs × (IsCovered nodes q.x q.y mine theirs → ⊥)
 
 -- instances of x and y can be concurrent with a read-write dependency

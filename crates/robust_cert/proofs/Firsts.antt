@@ -7,7 +7,7 @@ use Rattle.std.proofs.lemmas.Bool.{false≢true}
 use Rattle.std.proofs.lemmas.Option.{none-some}
 use Rattle.prog_check.specs.declared.path.Access.{Access}
 use Rattle.prog_check.specs.declared.path.Path.{Path}
-use Rattle.prog_paths.specs.StaticGraph.{Question}
+use Rattle.prog_paths.specs.StaticGraph.{QuestionNumbers}
 use Rattle.prog_paths.specs.Questions.{IsQuestion}
 use Rattle.prog_paths.specs.Listing.{IsBefore, RiseBy}
 use Rattle.robust_cert.specs.declared.certificate.EntryQuestion.{EntryQuestion}
@@ -87,12 +87,12 @@ module _ (nodes : List Path) (c : Certificate) (k : ℕ) (inside : k < length c.
 -- ---- one entry
 
 -- an entry is about no question
-pub no-question : (nodes : List Path) (entries : List Entry) (k : ℕ) (p : EntryQuestion) → ((e : Entry) → slice_get entries k ≡ Some e → p ≡ e.question) → (q : Question) → q ≡ numbers_told p → (IsQuestion nodes q → ⊥) → IsFaultAt nodes entries k (NoSuchEntry k)
+pub no-question : (nodes : List Path) (entries : List Entry) (k : ℕ) (p : EntryQuestion) → ((e : Entry) → slice_get entries k ≡ Some e → p ≡ e.question) → (q : QuestionNumbers) → q ≡ numbers_told p → (IsQuestion nodes q → ⊥) → IsFaultAt nodes entries k (NoSuchEntry k)
 no-question nodes entries k p about q named against e at = (refl, λ h. against (subst (IsQuestion nodes) (ap numbers_told (sym (about e at)) ∙ sym named) h))
 
 -- an entry that isn't the first stands behind the one before it, if their questions do
 module _ (entries : List Entry) (k : ℕ) (inside : k < length entries) (later : 0 < k) (o p : EntryQuestion) (before : (e : Entry) → slice_get entries (k - 1) ≡ Some e → o ≡ e.question) (about : (e : Entry) → slice_get entries k ≡ Some e → p ≡ e.question)
-    (m n : Question) (first : m ≡ numbers_told o) (second : n ≡ numbers_told p) (b : Bool) (says : (b ≡ true) ↔ IsBefore m n) (e : Entry) (at : slice_get entries k ≡ Some e) where
+    (m n : QuestionNumbers) (first : m ≡ numbers_told o) (second : n ≡ numbers_told p) (b : Bool) (says : (b ≡ true) ↔ IsBefore m n) (e : Entry) (at : slice_get entries k ≡ Some e) where
   second_is : n ≡ question_of e
   second_is = second ∙ ap numbers_told (about e at)
 
@@ -102,13 +102,13 @@ module _ (entries : List Entry) (k : ℕ) (inside : k < length entries) (later :
   pub behind-last : (b ≡ true) ↔ IsBehindLast entries k e
   behind-last = (
     λ h j last next is. let place : j ≡ k - 1 = omega (arith, next, later) in
-        subst (λ (r : Question). IsBefore r (question_of e)) (first_is last (subst (λ (i : ℕ). slice_get entries i ≡ Some last) place is)) (subst (IsBefore m) second_is (says.0 h)),
+        subst (λ (r : QuestionNumbers). IsBefore r (question_of e)) (first_is last (subst (λ (i : ℕ). slice_get entries i ≡ Some last) place is)) (subst (IsBefore m) second_is (says.0 h)),
     λ h. let w = entry_at entries (k - 1) (omega (arith, inside, later)) in
-        says.1 (subst (IsBefore m) (sym second_is) (subst (λ (r : Question). IsBefore r (question_of e)) (sym (first_is w.0 w.1)) (h (k - 1) w.0 (omega (arith, later)) w.1))),
+        says.1 (subst (IsBefore m) (sym second_is) (subst (λ (r : QuestionNumbers). IsBefore r (question_of e)) (sym (first_is w.0 w.1)) (h (k - 1) w.0 (omega (arith, later)) w.1))),
   )
 
 module _ (nodes : List Path) (entries : List Entry) (k : ℕ) (p : EntryQuestion) (about : (e : Entry) → slice_get entries k ≡ Some e → p ≡ e.question)
-    (q : Question) (named : q ≡ numbers_told p) (mine theirs : Access) (pair : IsAskedPair nodes q mine theirs) (behind : Bool) (says : (e : Entry) → slice_get entries k ≡ Some e → (behind ≡ true) ↔ IsBehindLast entries k e) where
+    (q : QuestionNumbers) (named : q ≡ numbers_told p) (mine theirs : Access) (pair : IsAskedPair nodes q mine theirs) (behind : Bool) (says : (e : Entry) → slice_get entries k ≡ Some e → (behind ≡ true) ↔ IsBehindLast entries k e) where
   asked : (e : Entry) → slice_get entries k ≡ Some e → IsQuestion nodes (question_of e)
   asked e at =
       subst (IsQuestion nodes) (named ∙ ap numbers_told (about e at)) (record { mine = mine; theirs = theirs; asked = pair.asked; asks = pair.asks })

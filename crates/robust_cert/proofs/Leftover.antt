@@ -4,8 +4,8 @@ use Rattle.std.specs.Prelude.{Contains}
 use Rattle.std.proofs.lemmas.Bool.{false≢true}
 use Rattle.prog_check.specs.declared.path.Access.{Access}
 use Rattle.prog_check.specs.declared.path.Path.{Path}
-use Rattle.prog_paths.specs.StaticGraph.{Question, AsksReadWrite}
-use Rattle.prog_paths.specs.declared.accesses.places.Question.{Question as Asked}
+use Rattle.prog_paths.specs.StaticGraph.{QuestionNumbers, AsksReadWrite}
+use Rattle.prog_paths.specs.declared.accesses.places.Question.{Question}
 use Rattle.prog_paths.specs.Questions.{numbers_of, questions_of}
 use Rattle.prog_paths.specs.Listing.{IsAskedOf, RiseBy}
 use Rattle.prog_paths.specs.Marks.{gives_edge, gives_vulnerable}
@@ -40,7 +40,7 @@ told-not_exposed : (r : Reason) → may_be_exposed (telling_with r) ≡ false
 told-not_exposed (Apart chain) = refl
 told-not_exposed (Cover m t chains) = refl
 
-module _ (entries : List Entry) (q : Question) where
+module _ (entries : List Entry) (q : QuestionNumbers) where
   untold_apart : RiseBy question_of entries → may_meet (telling_of entries q) ≡ true → IsToldApart entries q → ⊥
   untold_apart rise h (e, inside, says, about) = false≢true (sym (ap may_meet (telling-from_entry entries q e rise inside about) ∙ apart-never_meets e.reason says) ∙ h)
 
@@ -64,13 +64,13 @@ module _ (entries : List Entry) (q : Question) where
 -- ---- the tables of a pass
 
 module _ (nodes : List Path) (entries : List Entry) (rise : RiseBy question_of entries) where
-  abbrev Free : Question → Access → Access → Type 0
+  abbrev Free : QuestionNumbers → Access → Access → Type 0
   Free q mine theirs = ¬ IsToldApart entries q
 
-  abbrev Untold : Question → Access → Access → Type 0
+  abbrev Untold : QuestionNumbers → Access → Access → Type 0
   Untold q mine theirs = ¬ IsTold entries q
 
-  asked_in : (q : Asked) → Contains (questions_of nodes) q → IsAskedOf nodes q
+  asked_in : (q : Question) → Contains (questions_of nodes) q → IsAskedOf nodes q
   asked_in q i = (law_of_listing nodes q).0 i
 
   left-from_listed : (x y : ℕ) → some_edge entries (questions_of nodes) x y ≡ true → IsLeft nodes entries x y

@@ -7,7 +7,7 @@ use Rattle.std.proofs.lemmas.List.Folds.{list_any-append}
 use Rattle.std.proofs.lemmas.List.Elements.{All-nil, All-cons, All-head, All-tail}
 use Rattle.prog_check.specs.declared.path.Path.{Path}
 use Rattle.prog_paths.specs.declared.accesses.places.Placed.{Placed}
-use Rattle.prog_paths.specs.declared.accesses.places.Question.{Question as Asked}
+use Rattle.prog_paths.specs.declared.accesses.places.Question.{Question}
 use Rattle.prog_paths.specs.Questions.{asked_by, asked_among, questions_of, numbers_of}
 use Rattle.prog_paths.specs.Changers.{changers_of}
 use Rattle.prog_paths.specs.Tally.{of_table}
@@ -36,16 +36,16 @@ All-right : {A : Type 0} (P : A → Type 0) (xs ys : List A) → All P (xs ++ ys
 All-right P [] ys h = h
 All-right P (x ∷ xs) ys h = All-right P xs ys (All-tail P x (xs ++ ys) h)
 
-rise-left : (xs ys : List Asked) → RiseBy numbers_of (xs ++ ys) → RiseBy numbers_of xs
+rise-left : (xs ys : List Question) → RiseBy numbers_of (xs ++ ys) → RiseBy numbers_of xs
 rise-left [] ys r = tt
 rise-left (x ∷ xs) ys r = (All-left (λ later. IsBefore (numbers_of x) (numbers_of later)) xs ys r.0, rise-left xs ys r.1)
 
-rise-right : (xs ys : List Asked) → RiseBy numbers_of (xs ++ ys) → RiseBy numbers_of ys
+rise-right : (xs ys : List Question) → RiseBy numbers_of (xs ++ ys) → RiseBy numbers_of ys
 rise-right [] ys r = r
 rise-right (x ∷ xs) ys r = rise-right xs ys r.1
 
 -- the first part stands before the second
-rise-across : (xs ys : List Asked) → RiseBy numbers_of (xs ++ ys) → (k : ℕ) (d : Asked) → k < length ys → All (λ x. IsBefore (numbers_of x) (numbers_of (get_or ys k d))) xs
+rise-across : (xs ys : List Question) → RiseBy numbers_of (xs ++ ys) → (k : ℕ) (d : Question) → k < length ys → All (λ x. IsBefore (numbers_of x) (numbers_of (get_or ys k d))) xs
 rise-across [] ys r k d lt = All-nil (λ x. IsBefore (numbers_of x) (numbers_of (get_or ys k d)))
 rise-across (x ∷ xs) ys r k d lt =
     All-cons (λ z. IsBefore (numbers_of z) (numbers_of (get_or ys k d))) x xs
@@ -84,7 +84,7 @@ module _ (entries : List Entry) where
   pub Passes-none : (cursor : ℕ) (s : EdgeTables) → Passes entries [] cursor cursor s s
   Passes-none cursor s = record { edges = Enters-nothing s.edges; vulnerable = Enters-nothing s.vulnerable; cursor = λ q behind all. behind }
 
-  pub Passes-one : (q : Asked) (told : Telling) (m : Mark) (from to : ℕ) (old new : EdgeTables) → told ≡ telling_of entries (numbers_of q) → m ≡ mark_with q told → EntersMark old new m → IsBehind entries to (numbers_of q) → Passes entries (q ∷ []) from to old new
+  pub Passes-one : (q : Question) (told : Telling) (m : Mark) (from to : ℕ) (old new : EdgeTables) → told ≡ telling_of entries (numbers_of q) → m ≡ mark_with q told → EntersMark old new m → IsBehind entries to (numbers_of q) → Passes entries (q ∷ []) from to old new
   Passes-one q told m from to old new tells is e behind = record {
     edges = Enters-alike old.edges new.edges (λ x y. gives_edge x y m) (some_edge entries (q ∷ [])) (λ x y. ap (λ (n : Mark). gives_edge x y n) own ∙ sym (or-false (gives_edge x y (mark_under entries q)))) e.edges;
     vulnerable = Enters-alike old.vulnerable new.vulnerable (λ x y. gives_vulnerable x y m) (some_vulnerable entries (q ∷ [])) (λ x y. ap (λ (n : Mark). gives_vulnerable x y n) own ∙ sym (or-false (gives_vulnerable x y (mark_under entries q)))) e.vulnerable;
@@ -94,17 +94,17 @@ module _ (entries : List Entry) where
       own : m ≡ mark_under entries q
       own = is ∙ ap (mark_with q) tells
 
-  pub Passes-append : (xs ys : List Asked) (a b c : ℕ) (old mid new : EdgeTables) → Passes entries xs a b old mid → Passes entries ys b c mid new → Passes entries (xs ++ ys) a c old new
+  pub Passes-append : (xs ys : List Question) (a b c : ℕ) (old mid new : EdgeTables) → Passes entries xs a b old mid → Passes entries ys b c mid new → Passes entries (xs ++ ys) a c old new
   Passes-append xs ys a b c old mid new first second = record {
     edges = Enters-append old.edges mid.edges new.edges (some_edge entries xs) (some_edge entries ys) (some_edge entries (xs ++ ys)) (λ i j. list_any-append (λ q. gives_edge i j (mark_under entries q)) xs ys) first.edges second.edges;
     vulnerable = Enters-append old.vulnerable mid.vulnerable new.vulnerable (some_vulnerable entries xs) (some_vulnerable entries ys) (some_vulnerable entries (xs ++ ys)) (λ i j. list_any-append (λ q. gives_vulnerable i j (mark_under entries q)) xs ys) first.vulnerable second.vulnerable;
     cursor = λ q behind all. second.cursor q (first.cursor q behind (All-left (λ p. IsBefore (numbers_of p) q) xs ys all)) (All-right (λ p. IsBefore (numbers_of p) q) xs ys all);
   }
 
-  ready-left : (xs ys : List Asked) (a : ℕ) → IsReady entries (xs ++ ys) a → IsReady entries xs a
+  ready-left : (xs ys : List Question) (a : ℕ) → IsReady entries (xs ++ ys) a → IsReady entries xs a
   ready-left xs ys a r = record { entries_rise = r.entries_rise; questions_rise = rise-left xs ys r.questions_rise; behind = All-left (λ q. IsBehind entries a (numbers_of q)) xs ys r.behind }
 
-  ready-right : (xs ys : List Asked) (a b : ℕ) (old new : EdgeTables) → IsReady entries (xs ++ ys) a → Passes entries xs a b old new → IsReady entries ys b
+  ready-right : (xs ys : List Question) (a b : ℕ) (old new : EdgeTables) → IsReady entries (xs ++ ys) a → Passes entries xs a b old new → IsReady entries ys b
   ready-right xs ys a b old new r p = record {
     entries_rise = r.entries_rise;
     questions_rise = rise-right xs ys r.questions_rise;
@@ -122,14 +122,14 @@ module _ (entries : List Entry) where
         let rest = drop (n + 1) places in
         let x = get_or places n d in
         let whole : asked_by first (take n places) ++ asked_by first (x ∷ rest) ≡ asked_by first places = sym (asked_by-append first (take n places) (x ∷ rest)) ∙ ap (asked_by first) (one_more n places d lt) in
-        let behind = ready-right (asked_by first (take n places)) (asked_by first (x ∷ rest)) from at old now (subst (λ (l : List Asked). IsReady entries l from) (sym whole) r) p in
-        ready-left (asked_by first (x ∷ [])) (asked_by first rest) at (subst (λ (l : List Asked). IsReady entries l at) (asked_by-append first (x ∷ []) rest) behind)
+        let behind = ready-right (asked_by first (take n places)) (asked_by first (x ∷ rest)) from at old now (subst (λ (l : List Question). IsReady entries l from) (sym whole) r) p in
+        ready-left (asked_by first (x ∷ [])) (asked_by first rest) at (subst (λ (l : List Question). IsReady entries l at) (asked_by-append first (x ∷ []) rest) behind)
 
     pub asked-more : (to : ℕ) (new : EdgeTables) → Passes entries (asked_by first (take n places)) from at old now → Passes entries (asked_by first (get_or places n d ∷ [])) at to now new → Passes entries (asked_by first (take (n + 1) places)) from to old new
     asked-more to new p q =
         let x = get_or places n d in
         let parts : asked_by first (take n places) ++ asked_by first (x ∷ []) ≡ asked_by first (take (n + 1) places) = sym (asked_by-append first (take n places) (x ∷ [])) ∙ ap (asked_by first) (sym (take_more places n d lt)) in
-        subst (λ (l : List Asked). Passes entries l from to old new) parts (Passes-append (asked_by first (take n places)) (asked_by first (x ∷ [])) from at to old now new p q)
+        subst (λ (l : List Question). Passes entries l from to old new) parts (Passes-append (asked_by first (take n places)) (asked_by first (x ∷ [])) from at to old now new p q)
 
   -- ---- what each of some places asks, one more
 
@@ -142,17 +142,17 @@ module _ (entries : List Entry) where
         let rest = drop (n + 1) firsts in
         let x = get_or firsts n d in
         let whole : asked_among (take n firsts) seconds ++ asked_among (x ∷ rest) seconds ≡ asked_among firsts seconds = sym (asked_among-append (take n firsts) (x ∷ rest) seconds) ∙ ap (λ (l : List Placed). asked_among l seconds) (one_more n firsts d lt) in
-        let behind = ready-right (asked_among (take n firsts) seconds) (asked_among (x ∷ rest) seconds) from at old now (subst (λ (l : List Asked). IsReady entries l from) (sym whole) r) p in
+        let behind = ready-right (asked_among (take n firsts) seconds) (asked_among (x ∷ rest) seconds) from at old now (subst (λ (l : List Question). IsReady entries l from) (sym whole) r) p in
         ready-left (asked_by x seconds) (asked_among rest seconds) at behind
 
     among-more : (to : ℕ) (new : EdgeTables) → Passes entries (asked_among (take n firsts) seconds) from at old now → Passes entries (asked_by (get_or firsts n d) seconds) at to now new → Passes entries (asked_among (take (n + 1) firsts) seconds) from to old new
     among-more to new p q =
         let x = get_or firsts n d in
         let parts : asked_among (take n firsts) seconds ++ asked_by x seconds ≡ asked_among (take (n + 1) firsts) seconds =
-        ap (λ (l : List Asked). asked_among (take n firsts) seconds ++ l) (sym (append-nil (asked_by x seconds)))
+        ap (λ (l : List Question). asked_among (take n firsts) seconds ++ l) (sym (append-nil (asked_by x seconds)))
         ∙ sym (asked_among-append (take n firsts) (x ∷ []) seconds)
         ∙ ap (λ (l : List Placed). asked_among l seconds) (sym (take_more firsts n d lt)) in
-        subst (λ (l : List Asked). Passes entries l from to old new) parts (Passes-append (asked_among (take n firsts) seconds) (asked_by x seconds) from at to old now new p q)
+        subst (λ (l : List Question). Passes entries l from to old new) parts (Passes-append (asked_among (take n firsts) seconds) (asked_by x seconds) from at to old now new p q)
 
   -- the changers of its table stand for all
   module _ (places changers seconds : List Placed) (n : ℕ) (d : Placed) (lt : n < length places) (from at : ℕ) (old now : EdgeTables) (are_seconds : seconds ≡ of_table (get_or places n d).access.table changers) (are_changers : (table : ℕ) → of_table table changers ≡ changers_of table places) where
@@ -160,10 +160,10 @@ module _ (entries : List Entry) where
     same = seconds_ask (get_or places n d) places changers seconds are_seconds are_changers
 
     pub seconds-ready : IsReady entries (asked_among places places) from → Passes entries (asked_among (take n places) places) from at old now → IsReady entries (asked_by (get_or places n d) seconds) at
-    seconds-ready r p = subst (λ (l : List Asked). IsReady entries l at) (sym same) (among-ready places places n d lt from at old now r p)
+    seconds-ready r p = subst (λ (l : List Question). IsReady entries l at) (sym same) (among-ready places places n d lt from at old now r p)
 
     pub seconds-more : (to : ℕ) (new : EdgeTables) → Passes entries (asked_among (take n places) places) from at old now → Passes entries (asked_by (get_or places n d) seconds) at to now new → Passes entries (asked_among (take (n + 1) places) places) from to old new
-    seconds-more to new p q = among-more places places n d lt from at old now to new p (subst (λ (l : List Asked). Passes entries l at to now new) same q)
+    seconds-more to new p q = among-more places places n d lt from at old now to new p (subst (λ (l : List Question). Passes entries l at to now new) same q)
 
   -- ---- the whole
 

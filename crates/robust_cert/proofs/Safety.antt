@@ -7,7 +7,7 @@ use Rattle.prog_check.specs.declared.path.Path.{Path}
 use Rattle.prog_check.specs.Paths.{paths_of}
 use Rattle.order_facts.specs.declared.steps.Node.{Node}
 use Rattle.prog_paths.specs.Meeting.{CanMeet}
-use Rattle.prog_paths.specs.StaticGraph.{Question, AsksOf, AsksReadWrite, IsAccessOf, StaticEdge, IsCovered, IsExposed, IsVulnerable, Leads, here, onward, IsDangerousAt, IsDangerous}
+use Rattle.prog_paths.specs.StaticGraph.{QuestionNumbers, AsksOf, AsksReadWrite, IsAccessOf, StaticEdge, IsCovered, IsExposed, IsVulnerable, Leads, here, onward, IsDangerousAt, IsDangerous}
 use Rattle.prog_paths.specs.Questions.{Asks, ChangesSingleCells}
 use Rattle.prog_paths.specs.Facts.{question_facts}
 use Rattle.prog_paths.specs.Shown.{Falls, key_pairs, AllEqual}
@@ -35,36 +35,36 @@ unclosed x y z r d = let up = r.rise x y z d.first d.second in let back = level-
 -- ---- what an accepted certificate says of each question
 
 module _ (nodes : List Path) (single : All ChangesSingleCells nodes) (c : Certificate) (a : IsAccepted nodes c) where
-  pair_of : (q : Question) (mine theirs : Access) → AsksOf nodes q mine theirs → Asks q mine.kind theirs.kind → IsPair mine theirs
+  pair_of : (q : QuestionNumbers) (mine theirs : Access) → AsksOf nodes q mine theirs → Asks q mine.kind theirs.kind → IsPair mine theirs
   pair_of q mine theirs asked asks = record { table = asked.table; single = single_of nodes single q.y q.b theirs asked.at_theirs (may_touch-second q mine theirs asks) }
 
   -- a question that is told apart never meets
-  apart-right : (q : Question) (mine theirs : Access) → AsksOf nodes q mine theirs → Asks q mine.kind theirs.kind → IsToldApart c.entries q → CanMeet mine theirs → ⊥
+  apart-right : (q : QuestionNumbers) (mine theirs : Access) → AsksOf nodes q mine theirs → Asks q mine.kind theirs.kind → IsToldApart c.entries q → CanMeet mine theirs → ⊥
   apart-right q mine theirs asked asks (e, inside, says, about) meet = by e.reason (All-contains (Holds nodes) c.entries e a.holds inside).chains says
     where
       by : (r : Reason) → ChainsShow nodes (question_of e) r → SaysApart r → ⊥
       by (Cover m t chains) w says = says
       by (Apart chain) w says =
-          let own = subst (λ (r : Question). AsksOf nodes r w.0 w.1) about w.2 in
+          let own = subst (λ (r : QuestionNumbers). AsksOf nodes r w.0 w.1) about w.2 in
           let first = same_access nodes q.x q.a w.0 mine own.at_mine asked.at_mine in
           let second = same_access nodes q.y q.b w.1 theirs own.at_theirs asked.at_theirs in
           let falls = subst (λ (t : Access). Falls (question_facts mine t) chain) second (subst (λ (m : Access). Falls (question_facts m w.1) chain) first w.3) in
           apart-from_Falls mine theirs (pair_of q mine theirs asked asks) chain falls meet
 
   -- a question that is told meets only where it is covered
-  told-right : (q : Question) (mine theirs : Access) → AsksOf nodes q mine theirs → Asks q mine.kind theirs.kind → IsTold c.entries q → CanMeet mine theirs → IsCovered nodes q.x q.y mine theirs
+  told-right : (q : QuestionNumbers) (mine theirs : Access) → AsksOf nodes q mine theirs → Asks q mine.kind theirs.kind → IsTold c.entries q → CanMeet mine theirs → IsCovered nodes q.x q.y mine theirs
   told-right q mine theirs asked asks (e, inside, about) meet =
       by e.reason (All-contains (Holds nodes) c.entries e a.holds inside).chains (λ says. apart-right q mine theirs asked asks (e, inside, says, about) meet)
     where
       covered : (m t : ℕ) (chains : List (List Node)) → ChainsShow nodes (question_of e) (Cover m t chains) → IsCovered nodes q.x q.y mine theirs
       covered m t chains (of_mine, of_theirs, cover, shown) =
-          let own = subst (λ (r : Question). AsksOf nodes r cover.mine cover.theirs) about cover.asked in
+          let own = subst (λ (r : QuestionNumbers). AsksOf nodes r cover.mine cover.theirs) about cover.asked in
           let first = same_access nodes q.x q.a cover.mine mine own.at_mine asked.at_mine in
           let second = same_access nodes q.y q.b cover.theirs theirs own.at_theirs asked.at_theirs in
           let equal = AllEqual-from_ShowEqual (question_facts cover.mine cover.theirs) (key_pairs of_mine of_theirs) chains shown in
           let by_own = subst (λ (b : Access). AllEqual (question_facts mine b) (key_pairs of_mine of_theirs)) second (subst (λ (b : Access). AllEqual (question_facts b cover.theirs) (key_pairs of_mine of_theirs)) first equal) in
-          let at_first = subst (λ (r : Question). IsAccessOf nodes r.x m of_mine) about cover.at_mine in
-          let at_second = subst (λ (r : Question). IsAccessOf nodes r.y t of_theirs) about cover.at_theirs in
+          let at_first = subst (λ (r : QuestionNumbers). IsAccessOf nodes r.x m of_mine) about cover.at_mine in
+          let at_second = subst (λ (r : QuestionNumbers). IsAccessOf nodes r.y t of_theirs) about cover.at_theirs in
           record {
             first = m;
             second = t;
@@ -83,13 +83,13 @@ module _ (nodes : List Path) (single : All ChangesSingleCells nodes) (c : Certif
 
   -- ---- each edge is left
 
-  abbrev Meets : Question → Access → Access → Type 0
+  abbrev Meets : QuestionNumbers → Access → Access → Type 0
   Meets q mine theirs = CanMeet mine theirs
 
-  abbrev Free : Question → Access → Access → Type 0
+  abbrev Free : QuestionNumbers → Access → Access → Type 0
   Free q mine theirs = ¬ IsToldApart c.entries q
 
-  abbrev Untold : Question → Access → Access → Type 0
+  abbrev Untold : QuestionNumbers → Access → Access → Type 0
   Untold q mine theirs = ¬ IsTold c.entries q
 
   left : (x y : ℕ) → StaticEdge nodes x y → IsLeft nodes c.entries x y

@@ -19,17 +19,17 @@ use Rattle.robust_cert.specs.Sharing.{Entry}
 -- ---- what an entry is about
 
 -- the four numbers that a certificate tells of a question
-abbrev pub numbers_told : EntryQuestion → graph.Question
+abbrev pub numbers_told : EntryQuestion → graph.QuestionNumbers
 numbers_told q = record { x = q.x; a = q.a; y = q.y; b = q.b }
 
 -- the question that an entry is about
-abbrev pub question_of : Entry → graph.Question
+abbrev pub question_of : Entry → graph.QuestionNumbers
 question_of e = numbers_told e.question
 
 -- ---- when an entry holds
 
 -- the question asks for a read-write dependency; two accesses, one of each of its nodes, change or keep, in one table
-pub record IsCoverOf (nodes : List Path) (q : graph.Question) (m t : ℕ)
+pub record IsCoverOf (nodes : List Path) (q : graph.QuestionNumbers) (m t : ℕ)
     (of_mine of_theirs : Access) : Type 0 where
   pub mine : Access
   pub theirs : Access
@@ -42,7 +42,7 @@ pub record IsCoverOf (nodes : List Path) (q : graph.Question) (m t : ℕ)
   pub table : of_mine.table ≡ of_theirs.table
 
 -- a cover names such accesses, and has two chains for each key column of their table
-abbrev pub FitsQuestion : List Path → graph.Question → Reason → Type 0
+abbrev pub FitsQuestion : List Path → graph.QuestionNumbers → Reason → Type 0
 FitsQuestion nodes q (Apart chain) = Unit {0}
 FitsQuestion nodes q (Cover m t chains) =
     (of_mine : Access) × (of_theirs : Access) × IsCoverOf nodes q m t of_mine of_theirs
@@ -54,7 +54,7 @@ IsFitting nodes e = FitsQuestion nodes (question_of e) e.reason
 
 -- the chains of a reason hold by the question's facts: one runs from a number to a smaller one; or they show the two
 -- cells equal, column by column
-abbrev pub ChainsShow : List Path → graph.Question → Reason → Type 0
+abbrev pub ChainsShow : List Path → graph.QuestionNumbers → Reason → Type 0
 ChainsShow nodes q (Apart chain) =
     (mine : Access) × (theirs : Access) × AsksOf nodes q mine theirs × Falls (question_facts mine theirs) chain
 ChainsShow nodes q (Cover m t chains) =
@@ -79,11 +79,11 @@ SaysApart (Apart chain) = Unit {0}
 SaysApart (Cover m t chains) = ⊥
 
 -- an entry says so of the question
-abbrev pub IsToldApart : List Entry → graph.Question → Type 0
+abbrev pub IsToldApart : List Entry → graph.QuestionNumbers → Type 0
 IsToldApart entries q = (e : Entry) × Contains entries e × SaysApart e.reason × (question_of e ≡ q)
 
 -- an entry is about the question
-abbrev pub IsTold : List Entry → graph.Question → Type 0
+abbrev pub IsTold : List Entry → graph.QuestionNumbers → Type 0
 IsTold entries q = (e : Entry) × Contains entries e × (question_of e ≡ q)
 
 -- an edge is left where a question that gives it is not told apart

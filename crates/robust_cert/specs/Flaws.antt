@@ -6,7 +6,7 @@ use Rattle.order_facts.specs.declared.steps.Fact.{Fact}
 use Rattle.order_facts.specs.Chain.{RunsBetween}
 use Rattle.prog_check.specs.declared.path.Access.{Access}
 use Rattle.prog_check.specs.declared.path.Path.{Path}
-use Rattle.prog_paths.specs.StaticGraph.{Question, AsksOf}
+use Rattle.prog_paths.specs.StaticGraph.{QuestionNumbers, AsksOf}
 use Rattle.prog_paths.specs.Questions.{Asks}
 use Rattle.prog_paths.specs.Facts.{question_facts}
 use Rattle.prog_paths.specs.Shown.{key_pairs}
@@ -20,7 +20,7 @@ use Rattle.robust_cert.specs.Refused.{IsBehindLast, IsNoQuestion, IsOutOfOrder, 
 use Rattle.robust_cert.specs.Sharing.{Entry}
 
 -- the two accesses are those of a question of the paths
-pub record IsAskedPair (nodes : List Path) (q : Question) (mine theirs : Access) : Type 0 where
+pub record IsAskedPair (nodes : List Path) (q : QuestionNumbers) (mine theirs : Access) : Type 0 where
   pub asked : AsksOf nodes q mine theirs
   pub asks : Asks q mine.kind theirs.kind
 
@@ -36,7 +36,7 @@ pub record RunsDown (chain : List Node) : Type 0 where
   pub runs : RunsBetween (Number greater) (Number smaller) chain
 
 -- two accesses cover the question, with so many chains
-pub record CoversWith (nodes : List Path) (q : Question) (m t count : ℕ)
+pub record CoversWith (nodes : List Path) (q : QuestionNumbers) (m t count : ℕ)
     (of_mine of_theirs : Access) : Type 0 where
   pub cover : IsCoverOf nodes q m t of_mine of_theirs
   pub enough : count ≡ 2 * length (key_pairs of_mine of_theirs)

@@ -1,7 +1,7 @@
 -- What the entries tell of a question, and what that leaves.
 use Rattle.std.specs.Prelude.{◌≡◌, ℕ, ◌<◌, List, [], ◌∷◌, Bool, true, false, ◌&&◌, ◌==◌, if◌then◌else◌, Some, slice_get}
-use Rattle.prog_paths.specs.StaticGraph.{Question}
-use Rattle.prog_paths.specs.declared.accesses.places.Question.{Question as Asked}
+use Rattle.prog_paths.specs.StaticGraph.{QuestionNumbers}
+use Rattle.prog_paths.specs.declared.accesses.places.Question.{Question}
 use Rattle.prog_paths.specs.Questions.{numbers_of}
 use Rattle.prog_paths.specs.Listing.{IsBefore}
 use Rattle.prog_paths.specs.Marks.{mark_by}
@@ -15,11 +15,11 @@ use Rattle.robust_cert.specs.Accepted.{question_of}
 use Rattle.robust_cert.specs.Sharing.{Entry}
 
 -- the question of four numbers
-abbrev pub question_with : Numbers → Question
+abbrev pub question_with : Numbers → QuestionNumbers
 question_with n = record { x = n.x; a = n.a; y = n.y; b = n.b }
 
 -- two questions have the same numbers
-abbrev pub is_same : Question → Question → Bool
+abbrev pub is_same : QuestionNumbers → QuestionNumbers → Bool
 is_same p q = p.x == q.x && (p.a == q.a && (p.y == q.y && p.b == q.b))
 
 -- what a reason tells of its question
@@ -28,12 +28,12 @@ telling_with (Apart chain) = telling.TheVariants.Apart
 telling_with (Cover mine theirs chains) = telling.TheVariants.Cover
 
 -- what the entries tell of a question
-abbrev pub telling_of : List Entry → Question → Telling
+abbrev pub telling_of : List Entry → QuestionNumbers → Telling
 telling_of [] q = telling.TheVariants.Nothing
 telling_of (e ∷ rest) q = if is_same (question_of e) q then telling_with e.reason else telling_of rest q
 
 -- the entries before this one stand before the question
-abbrev pub IsBehind : List Entry → ℕ → Question → Type 0
+abbrev pub IsBehind : List Entry → ℕ → QuestionNumbers → Type 0
 IsBehind entries cursor q =
     (k : ℕ) (e : Entry) → k < cursor → slice_get entries k ≡ Some e → IsBefore (question_of e) q
 
@@ -52,9 +52,9 @@ may_be_exposed telling.TheVariants.Apart = false
 may_be_exposed telling.TheVariants.Cover = false
 
 -- what a question gives of which this is told
-abbrev pub mark_with : Asked → Telling → Mark
+abbrev pub mark_with : Question → Telling → Mark
 mark_with q told = mark_by q (may_meet told) (may_be_exposed told)
 
 -- what a question gives under these entries
-abbrev pub mark_under : List Entry → Asked → Mark
+abbrev pub mark_under : List Entry → Question → Mark
 mark_under entries q = mark_with q (telling_of entries (numbers_of q))

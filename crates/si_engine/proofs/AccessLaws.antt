@@ -16,7 +16,7 @@ use Rattle.prog_check.specs.Paths.{paths_of}
 use Rattle.prog_check.specs.Tables.{grows}
 use Rattle.prog_paths.specs.Follows.{IsLookOf, LooksAt, KeepsCell, FoundAs, ChangedAs}
 use Rattle.prog_paths.specs.Meeting.{Assignment, IsOf, IsTime, MeetAsOwn}
-use Rattle.prog_paths.specs.StaticGraph.{Question, HasQuestion}
+use Rattle.prog_paths.specs.StaticGraph.{QuestionNumbers, HasQuestion}
 use Rattle.prog_check.specs.declared.path.Kind.{Kind}
 use Rattle.prog_tree.proofs.Elements.{any_in}
 use Rattle.prog_paths.proofs.KindsFit.{KindFits}
@@ -131,11 +131,11 @@ module _ (set : DraftTree) (opening : TableState) (h : List Instance) (is : IsHi
       },
     )
 
-    abbrev pub question_of : Question
+    abbrev pub question_of : QuestionNumbers
     question_of = record { x = f.node; a = t.number; y = g.node; b = s.number }
 
     -- a question about them of which P holds
-    pub asked_with : (asks : Question → Kind → Kind → Type 0) (P : Question → Access → Access → Type 0) →
+    pub asked_with : (asks : QuestionNumbers → Kind → Kind → Type 0) (P : QuestionNumbers → Access → Access → Type 0) →
         asks question_of t.access.kind s.access.kind → P question_of t.access s.access →
         HasQuestion asks P (paths_of set) f.node g.node
     asked_with asks P kinds p =
@@ -155,6 +155,6 @@ module _ (set : DraftTree) (opening : TableState) (h : List Instance) (is : IsHi
         }
 
     -- a question that meets at some times under the assignments followed
-    pub asked : (asks : Question → Kind → Kind → Type 0) → asks question_of t.access.kind s.access.kind →
+    pub asked : (asks : QuestionNumbers → Kind → Kind → Type 0) → asks question_of t.access.kind s.access.kind →
         HasQuestion asks (λ q a b. MeetAsOwn f.v g.v a b) (paths_of set) f.node g.node
     asked asks kinds = asked_with asks (λ q a b. MeetAsOwn f.v g.v a b) kinds meets

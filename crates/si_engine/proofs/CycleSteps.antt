@@ -6,7 +6,7 @@ use Rattle.prog_check.specs.declared.path.Kind.{Kind}
 use Rattle.prog_check.specs.declared.path.Path.{Path}
 use Rattle.prog_check.specs.Paths.{paths_of}
 use Rattle.prog_paths.specs.Meeting.{Assignment, MeetAsOwn, CanMeet}
-use Rattle.prog_paths.specs.StaticGraph.{Question, HasQuestion, StaticEdge}
+use Rattle.prog_paths.specs.StaticGraph.{QuestionNumbers, HasQuestion, StaticEdge}
 use Rattle.prog_paths.proofs.Edges.{HasQuestion-weaker}
 use Rattle.history_book.specs.Dependencies.{depends}
 use Rattle.history_book.specs.History.{Instance}
@@ -14,7 +14,7 @@ use Rattle.si_engine.specs.Robustness.{EdgeUnder, HasCommitted, IsHistory, Follo
 use Rattle.si_engine.proofs.EdgeLaws.{edge_of}
 use Rattle.si_engine.proofs.MissedLaws.{depends_on}
 
-can_meet : (asks : Question → Kind → Kind → Type 0) (v w : Assignment) (nodes : List Path) (x y : ℕ) →
+can_meet : (asks : QuestionNumbers → Kind → Kind → Type 0) (v w : Assignment) (nodes : List Path) (x y : ℕ) →
     HasQuestion asks (λ q a b. MeetAsOwn v w a b) nodes x y → HasQuestion asks (λ q a b. CanMeet a b) nodes x y
 can_meet asks v w nodes x y q =
     HasQuestion-weaker asks (λ question a b. MeetAsOwn v w a b) (λ question a b. CanMeet a b) nodes

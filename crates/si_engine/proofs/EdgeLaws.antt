@@ -7,7 +7,7 @@ use Rattle.prog_tree.specs.declared.cell.Cell.{Cell}
 use Rattle.prog_tree.specs.Syntax.{DraftTree}
 use Rattle.prog_tree.specs.Table.{TableState}
 use Rattle.prog_check.specs.Paths.{paths_of}
-use Rattle.prog_paths.specs.StaticGraph.{Question, AsksReadWrite, AsksWriteRead, AsksWriteWrite, IsInOrder}
+use Rattle.prog_paths.specs.StaticGraph.{QuestionNumbers, AsksReadWrite, AsksWriteRead, AsksWriteWrite, IsInOrder}
 use Rattle.history_book.specs.Dependencies.{start_at}
 use Rattle.history_book.specs.History.{Instance}
 use Rattle.history_book.proofs.DependencyLaws.{Looks, Changes, DependsOn}
@@ -19,11 +19,11 @@ use Rattle.si_engine.proofs.AccessLaws.{HoldsLook, HoldsChange, Holds, looked, c
 use Rattle.si_engine.proofs.MissedLaws.{depends_on, starts}
 
 -- the question the other way round
-abbrev turned : Question → Question
+abbrev turned : QuestionNumbers → QuestionNumbers
 turned q = record { x = q.y; a = q.b; y = q.x; b = q.a }
 
 -- of two accesses one stands first
-in_order : (q : Question) → IsInOrder q ⊎ IsInOrder (turned q)
+in_order : (q : QuestionNumbers) → IsInOrder q ⊎ IsInOrder (turned q)
 in_order q = go (cases_order q.x q.y) (cases_lt q.b q.a)
   where
     go : (q.x ≡ q.y) ⊎ ((q.x < q.y) ⊎ (q.y < q.x)) → (q.b < q.a) ⊎ (q.a ≤ q.b) →
@@ -58,7 +58,7 @@ module _ (set : DraftTree) (opening : TableState) (h : List Instance) (is : IsHi
             EdgeUnder f.v g.v (paths_of set) f.node g.node
         go (t, inl k) (s, inl l) = cases (in_order q)
           where
-            q : Question
+            q : QuestionNumbers
             q = question_of set opening h is i j f g c t s
 
             cases : IsInOrder q ⊎ IsInOrder (turned q) → EdgeUnder f.v g.v (paths_of set) f.node g.node

@@ -6,8 +6,8 @@ use Rattle.order_facts.specs.declared.steps.Node.{Node}
 use Rattle.order_facts.specs.declared.steps.Fact.{Fact}
 use Rattle.prog_check.specs.declared.path.Path.{Path}
 use Rattle.prog_check.specs.declared.path.Term.{Term}
-use Rattle.prog_paths.specs.StaticGraph.{Question, IsAccessOf}
-use Rattle.prog_paths.specs.declared.accesses.places.Question.{Question as Asked}
+use Rattle.prog_paths.specs.StaticGraph.{QuestionNumbers, IsAccessOf}
+use Rattle.prog_paths.specs.declared.accesses.places.Question.{Question}
 use Rattle.prog_paths.specs.Questions.{IsQuestion, numbers_of, questions_of}
 use Rattle.prog_paths.specs.Listing.{IsAskedOf, IsBefore, RiseBy}
 use Rattle.prog_paths.specs.Shown.{ShowEqual, key_pairs}
@@ -26,12 +26,12 @@ use Rattle.si_repair.specs.Certificates.{told_question, told_by, told_of}
 
 -- ---- in order
 
-behind-by : (p : Question) (q : Asked) (v : Verdict) → IsBefore p (numbers_of q) → All (λ later. IsBefore p (question_of later)) (told_by q v)
+behind-by : (p : QuestionNumbers) (q : Question) (v : Verdict) → IsBefore p (numbers_of q) → All (λ later. IsBefore p (question_of later)) (told_by q v)
 behind-by p q (Apart chain) h = All-cons (λ later. IsBefore p (question_of later)) (entry_with (told_question q) (reason.TheVariants.Apart chain)) [] h (All-nil (λ later. IsBefore p (question_of later)))
 behind-by p q (Covered m t chains) h = All-cons (λ later. IsBefore p (question_of later)) (entry_with (told_question q) (reason.TheVariants.Cover m t chains)) [] h (All-nil (λ later. IsBefore p (question_of later)))
 behind-by p q (Exposed sample) h = All-nil (λ later. IsBefore p (question_of later))
 
-behind : (p : Question) (es : List Judged) → All (λ later. IsBefore p (numbers_of later)) (map (λ (e : Judged). e.question) es) → All (λ later. IsBefore p (question_of later)) (told_of es)
+behind : (p : QuestionNumbers) (es : List Judged) → All (λ later. IsBefore p (numbers_of later)) (map (λ (e : Judged). e.question) es) → All (λ later. IsBefore p (question_of later)) (told_of es)
 behind p [] h = All-nil (λ later. IsBefore p (question_of later))
 behind p (e ∷ es) h =
     let rest = map (λ (d : Judged). d.question) es in
@@ -39,7 +39,7 @@ behind p (e ∷ es) h =
     (behind-by p e.question e.verdict (All-head (λ later. IsBefore p (numbers_of later)) e.question rest h))
     (behind p es (All-tail (λ later. IsBefore p (numbers_of later)) e.question rest h))
 
-rising-by : (q : Asked) (v : Verdict) (rest : List Entry) → All (λ later. IsBefore (numbers_of q) (question_of later)) rest → RiseBy question_of rest → RiseBy question_of (told_by q v ++ rest)
+rising-by : (q : Question) (v : Verdict) (rest : List Entry) → All (λ later. IsBefore (numbers_of q) (question_of later)) rest → RiseBy question_of rest → RiseBy question_of (told_by q v ++ rest)
 rising-by q (Apart chain) rest h r = (h, r)
 rising-by q (Covered m t chains) rest h r = (h, r)
 rising-by q (Exposed sample) rest h r = r
@@ -49,7 +49,7 @@ rising-of [] r = tt
 rising-of (e ∷ es) r = rising-by e.question e.verdict (told_of es) (behind (numbers_of e.question) es r.0) (rising-of es r.1)
 
 pub rising : (t : Table) (paths : List Path) → StandsFor t paths → RiseBy question_of (told_of t.entries)
-rising t paths s = rising-of t.entries (subst (λ (qs : List Asked). RiseBy numbers_of qs) (sym s.questions) (law_of_order paths))
+rising t paths s = rising-of t.entries (subst (λ (qs : List Question). RiseBy numbers_of qs) (sym s.questions) (law_of_order paths))
 
 -- ---- one entry
 
@@ -58,7 +58,7 @@ pub record IsEntryOf (paths : List Path) (e : Judged) : Type 0 where
   pub asked : IsAskedOf paths e.question
   pub right : IsRightEntry paths e
 
-questions_asked : (P : Asked → Type 0) (es : List Judged) → All P (map (λ (e : Judged). e.question) es) → All (λ e. P e.question) es
+questions_asked : (P : Question → Type 0) (es : List Judged) → All P (map (λ (e : Judged). e.question) es) → All (λ e. P e.question) es
 questions_asked P [] h = All-nil (λ (e : Judged). P e.question)
 questions_asked P (e ∷ es) h =
     let rest = map (λ (d : Judged). d.question) es in
@@ -69,7 +69,7 @@ all_asked paths n d inside = (law_of_listing paths _).0 (All-contains_itself (qu
 
 pub entries_stand : (t : Table) (paths : List Path) → StandsFor t paths → All (λ e. IsEntryOf paths e) t.entries
 entries_stand t paths s n d inside = record {
-  asked = questions_asked (λ q. IsAskedOf paths q) t.entries (subst (λ (qs : List Asked). All (λ q. IsAskedOf paths q) qs) (sym s.questions) (all_asked paths)) n d inside;
+  asked = questions_asked (λ q. IsAskedOf paths q) t.entries (subst (λ (qs : List Question). All (λ q. IsAskedOf paths q) qs) (sym s.questions) (all_asked paths)) n d inside;
   right = s.right n d inside;
 }
 
@@ -81,7 +81,7 @@ two_for_each facts [] (c ∷ cs) h = absurd h
 two_for_each facts (p ∷ ps) [] h = absurd h
 two_for_each facts (p ∷ ps) (c ∷ []) h = absurd h
 
-module _ (paths : List Path) (q : Asked) (asked : IsAskedOf paths q) where
+module _ (paths : List Path) (q : Question) (asked : IsAskedOf paths q) where
   is_question : IsQuestion paths (numbers_of q)
   is_question = record { mine = asked.mine; theirs = asked.theirs; asked = asked.asked; asks = asked.asks }
 

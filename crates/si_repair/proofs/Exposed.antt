@@ -9,7 +9,7 @@ use Rattle.prog_check.specs.declared.path.Access.{Access}
 use Rattle.prog_check.specs.declared.path.Path.{Path}
 use Rattle.prog_paths.specs.StaticGraph.{IsAccessOf, AsksOf}
 use Rattle.prog_paths.specs.declared.accesses.places.Placed.{Placed}
-use Rattle.prog_paths.specs.declared.accesses.places.Question.{Question as Asked}
+use Rattle.prog_paths.specs.declared.accesses.places.Question.{Question}
 use Rattle.prog_paths.specs.Questions.{asks, numbers_of, question_between, placed_from, all_from, accesses_by, program_from, asked_by, asked_among, questions_of}
 use Rattle.prog_paths.specs.Places.{IsAt}
 use Rattle.prog_paths.proofs.Questions.{placed, all_places_stand, if_yes, asked_by-append, asked_among-append}
@@ -192,7 +192,7 @@ module _ (nodes : List Path) where
 
   pub among-exposed : (x y : Placed) → IsExposedTo nodes x y → AreExposedAmong nodes (x ∷ []) (y ∷ []) (question_between x y ∷ [])
   among-exposed x y e = record {
-    part = subst (λ (l : List Asked). IsPart (l ++ []) (question_between x y ∷ [])) (sym (if_yes (asks x y) (question_between x y) [] (asks-from_misses x y e.misses))) (part-whole (question_between x y ∷ []));
+    part = subst (λ (l : List Question). IsPart (l ++ []) (question_between x y ∷ [])) (sym (if_yes (asks x y) (question_between x y) [] (asks-from_misses x y e.misses))) (part-whole (question_between x y ∷ []));
     only = λ q c. record { first = x; second = y; in_firsts = just_one x; in_seconds = just_one y; exposed = e; is = sym (only_one (question_between x y) q c) };
     each = λ v w i j h. subst (λ (p : Placed). Contains (question_between x y ∷ []) (question_between p w)) (only_one x v i) (subst (λ (p : Placed). Contains (question_between x y ∷ []) (question_between x p)) (only_one y w j) (just_one (question_between x y)));
   }
@@ -204,21 +204,21 @@ module _ (nodes : List Path) where
     each = λ v w i j h. absurd (n (subst (λ (p : Placed). IsExposedTo nodes p y) (sym (only_one x v i)) (subst (λ (p : Placed). IsExposedTo nodes v p) (sym (only_one y w j)) h)));
   }
 
-  pub first_moved : (xs ys zs : List Placed) (q : Asked) → ((x : Placed) → Contains xs x → Contains ys x) → IsExposedOf nodes xs zs q → IsExposedOf nodes ys zs q
+  pub first_moved : (xs ys zs : List Placed) (q : Question) → ((x : Placed) → Contains xs x → Contains ys x) → IsExposedOf nodes xs zs q → IsExposedOf nodes ys zs q
   first_moved xs ys zs q move e = record { first = e.first; second = e.second; in_firsts = move e.first e.in_firsts; in_seconds = e.in_seconds; exposed = e.exposed; is = e.is }
 
-  second_moved : (xs ys zs : List Placed) (q : Asked) → ((y : Placed) → Contains ys y → Contains zs y) → IsExposedOf nodes xs ys q → IsExposedOf nodes xs zs q
+  second_moved : (xs ys zs : List Placed) (q : Question) → ((y : Placed) → Contains ys y → Contains zs y) → IsExposedOf nodes xs ys q → IsExposedOf nodes xs zs q
   second_moved xs ys zs q move e = record { first = e.first; second = e.second; in_firsts = e.in_firsts; in_seconds = move e.second e.in_seconds; exposed = e.exposed; is = e.is }
 
-  pub among-firsts : (xs ys zs : List Placed) (qs rs : List Asked) → AreExposedAmong nodes xs zs qs → AreExposedAmong nodes ys zs rs → AreExposedAmong nodes (xs ++ ys) zs (qs ++ rs)
+  pub among-firsts : (xs ys zs : List Placed) (qs rs : List Question) → AreExposedAmong nodes xs zs qs → AreExposedAmong nodes ys zs rs → AreExposedAmong nodes (xs ++ ys) zs (qs ++ rs)
   among-firsts xs ys zs qs rs h k = record { part = part; only = only; each = each }
     where
       part : IsPart (asked_among (xs ++ ys) zs) (qs ++ rs)
       part =
-          subst (λ (l : List Asked). IsPart l (qs ++ rs)) (sym (asked_among-append xs ys zs))
+          subst (λ (l : List Question). IsPart l (qs ++ rs)) (sym (asked_among-append xs ys zs))
           (part-append (asked_among xs zs) (asked_among ys zs) qs rs h.part k.part)
 
-      only : (q : Asked) → Contains (qs ++ rs) q → IsExposedOf nodes (xs ++ ys) zs q
+      only : (q : Question) → Contains (qs ++ rs) q → IsExposedOf nodes (xs ++ ys) zs q
       only q c = go (Contains-append_cases qs rs q c)
         where
           go : Contains qs q ⊎ Contains rs q → IsExposedOf nodes (xs ++ ys) zs q
@@ -236,7 +236,7 @@ module _ (nodes : List Path) where
   asked-alone : (x : Placed) (ys : List Placed) → asked_among (x ∷ []) ys ≡ asked_by x ys
   asked-alone x ys = append-nil (asked_by x ys)
 
-  pub among-seconds : (x : Placed) (ys zs : List Placed) (qs rs : List Asked) → AreExposedAmong nodes (x ∷ []) ys qs → AreExposedAmong nodes (x ∷ []) zs rs → AreExposedAmong nodes (x ∷ []) (ys ++ zs) (qs ++ rs)
+  pub among-seconds : (x : Placed) (ys zs : List Placed) (qs rs : List Question) → AreExposedAmong nodes (x ∷ []) ys qs → AreExposedAmong nodes (x ∷ []) zs rs → AreExposedAmong nodes (x ∷ []) (ys ++ zs) (qs ++ rs)
   among-seconds x ys zs qs rs h k = record { part = part; only = only; each = each }
     where
       xs : List Placed
@@ -244,12 +244,12 @@ module _ (nodes : List Path) where
 
       part : IsPart (asked_among (x ∷ []) (ys ++ zs)) (qs ++ rs)
       part =
-          subst (λ (l : List Asked). IsPart l (qs ++ rs)) (sym (asked-alone x (ys ++ zs) ∙ asked_by-append x ys zs))
+          subst (λ (l : List Question). IsPart l (qs ++ rs)) (sym (asked-alone x (ys ++ zs) ∙ asked_by-append x ys zs))
           (part-append (asked_by x ys) (asked_by x zs) qs rs
-          (subst (λ (l : List Asked). IsPart l qs) (asked-alone x ys) h.part)
-          (subst (λ (l : List Asked). IsPart l rs) (asked-alone x zs) k.part))
+          (subst (λ (l : List Question). IsPart l qs) (asked-alone x ys) h.part)
+          (subst (λ (l : List Question). IsPart l rs) (asked-alone x zs) k.part))
 
-      only : (q : Asked) → Contains (qs ++ rs) q → IsExposedOf nodes xs (ys ++ zs) q
+      only : (q : Question) → Contains (qs ++ rs) q → IsExposedOf nodes xs (ys ++ zs) q
       only q c = go (Contains-append_cases qs rs q c)
         where
           go : Contains qs q ⊎ Contains rs q → IsExposedOf nodes xs (ys ++ zs) q
@@ -264,23 +264,23 @@ module _ (nodes : List Path) where
           go (inr r) = Contains-append_right qs rs _ (k.each first second i r e)
 
   -- one more access at the end of the seconds
-  pub more-exposed : (x : Placed) (n : ℕ) (ys : List Placed) (d : Placed) (qs more : List Asked) → n < length ys → IsExposedTo nodes x (get_or ys n d) → more ≡ qs ++ question_between x (get_or ys n d) ∷ [] → AreExposedAmong nodes (x ∷ []) (take n ys) qs → AreExposedAmong nodes (x ∷ []) (take (n + 1) ys) more
+  pub more-exposed : (x : Placed) (n : ℕ) (ys : List Placed) (d : Placed) (qs more : List Question) → n < length ys → IsExposedTo nodes x (get_or ys n d) → more ≡ qs ++ question_between x (get_or ys n d) ∷ [] → AreExposedAmong nodes (x ∷ []) (take n ys) qs → AreExposedAmong nodes (x ∷ []) (take (n + 1) ys) more
   more-exposed x n ys d qs more lt e added h =
       subst (λ (l : List Placed). AreExposedAmong nodes (x ∷ []) l more) (sym (take_more ys n d lt))
-      (subst (λ (l : List Asked). AreExposedAmong nodes (x ∷ []) (take n ys ++ get_or ys n d ∷ []) l) (sym added)
+      (subst (λ (l : List Question). AreExposedAmong nodes (x ∷ []) (take n ys ++ get_or ys n d ∷ []) l) (sym added)
       (among-seconds x (take n ys) (get_or ys n d ∷ []) qs (question_between x (get_or ys n d) ∷ []) h (among-exposed x (get_or ys n d) e)))
 
-  pub more-unexposed : (x : Placed) (n : ℕ) (ys : List Placed) (d : Placed) (qs more : List Asked) → n < length ys → (IsExposedTo nodes x (get_or ys n d) → ⊥) → more ≡ qs → AreExposedAmong nodes (x ∷ []) (take n ys) qs → AreExposedAmong nodes (x ∷ []) (take (n + 1) ys) more
+  pub more-unexposed : (x : Placed) (n : ℕ) (ys : List Placed) (d : Placed) (qs more : List Question) → n < length ys → (IsExposedTo nodes x (get_or ys n d) → ⊥) → more ≡ qs → AreExposedAmong nodes (x ∷ []) (take n ys) qs → AreExposedAmong nodes (x ∷ []) (take (n + 1) ys) more
   more-unexposed x n ys d qs more lt e is h =
       subst (λ (l : List Placed). AreExposedAmong nodes (x ∷ []) l more) (sym (take_more ys n d lt))
-      (subst (λ (l : List Asked). AreExposedAmong nodes (x ∷ []) (take n ys ++ get_or ys n d ∷ []) l) (append-nil qs ∙ sym is)
+      (subst (λ (l : List Question). AreExposedAmong nodes (x ∷ []) (take n ys ++ get_or ys n d ∷ []) l) (append-nil qs ∙ sym is)
       (among-seconds x (take n ys) (get_or ys n d ∷ []) qs [] h (among-unexposed x (get_or ys n d) e)))
 
   -- one more access at the end of the firsts
-  pub more-firsts : (n : ℕ) (xs ys : List Placed) (d : Placed) (qs rs more : List Asked) → n < length xs → AreExposedAmong nodes (get_or xs n d ∷ []) ys rs → more ≡ qs ++ rs → AreExposedAmong nodes (take n xs) ys qs → AreExposedAmong nodes (take (n + 1) xs) ys more
+  pub more-firsts : (n : ℕ) (xs ys : List Placed) (d : Placed) (qs rs more : List Question) → n < length xs → AreExposedAmong nodes (get_or xs n d ∷ []) ys rs → more ≡ qs ++ rs → AreExposedAmong nodes (take n xs) ys qs → AreExposedAmong nodes (take (n + 1) xs) ys more
   more-firsts n xs ys d qs rs more lt own added h =
       subst (λ (l : List Placed). AreExposedAmong nodes l ys more) (sym (take_more xs n d lt))
-      (subst (λ (l : List Asked). AreExposedAmong nodes (take n xs ++ get_or xs n d ∷ []) ys l) (sym added)
+      (subst (λ (l : List Question). AreExposedAmong nodes (take n xs ++ get_or xs n d ∷ []) ys l) (sym added)
       (among-firsts (take n xs) (get_or xs n d ∷ []) ys qs rs h own))
 
   -- ---- the questions of a pair
@@ -293,7 +293,7 @@ module _ (nodes : List Path) where
     in_seconds e = seconds.each (change_of nodes pair e) e.question.asked.at_theirs (subst (λ (n : ℕ). IsOfProgram nodes pair.to n) (sym e.question.to) e.of_pair.1)
 
     -- what is exposed between their accesses is of the pair
-    pub of_pair-exposed : (q : Asked) → IsExposedOf nodes xs ys q → (e : ExposedOf nodes pair) × (e.question.question ≡ numbers_of q)
+    pub of_pair-exposed : (q : Question) → IsExposedOf nodes xs ys q → (e : ExposedOf nodes pair) × (e.question.question ≡ numbers_of q)
     of_pair-exposed q b =
         let f = firsts.only b.first b.in_firsts in
         let s = seconds.only b.second b.in_seconds in (
@@ -315,7 +315,7 @@ module _ (nodes : List Path) where
           ap numbers_of (sym b.is),
         )
 
-    pub AreExposed-from_places : (qs : List Asked) → AreExposedAmong nodes xs ys qs → AreExposed nodes pair qs
+    pub AreExposed-from_places : (qs : List Question) → AreExposedAmong nodes xs ys qs → AreExposed nodes pair qs
     AreExposed-from_places qs h = record {
       part = part-trans (questions_of nodes) (asked_among xs ys) qs (part-among (all_from 0 nodes) xs ys firsts.part seconds.part) h.part;
       only = λ q c. of_pair-exposed q (h.only q c);

@@ -10,8 +10,8 @@ use Rattle.prog_check.specs.Paths.{statement_count, paths_of}
 use Rattle.prog_check.specs.Uses.{as_count}
 use Rattle.prog_check.specs.declared.path.Access.{Access}
 use Rattle.prog_check.specs.declared.path.Path.{Path}
-use Rattle.prog_paths.specs.StaticGraph.{Question, IsAccessOf}
-use Rattle.prog_paths.specs.declared.accesses.places.Question.{Question as Asked}
+use Rattle.prog_paths.specs.StaticGraph.{QuestionNumbers, IsAccessOf}
+use Rattle.prog_paths.specs.declared.accesses.places.Question.{Question}
 use Rattle.prog_paths.proofs.Marked.{same_access}
 use Rattle.repair_laws.specs.declared.plan.Pair.{Pair}
 use Rattle.repair_laws.specs.Keys.{ExposedOf}
@@ -216,21 +216,21 @@ pub in_body-sure : (sure : Bool) → (not sure ≡ true) ↔ (sure ≡ false)
 in_body-sure true = (λ h. absurd (false≢true h), λ h. absurd (false≢true (sym h)))
 in_body-sure false = (λ h. refl, λ h. refl)
 
-module _ (nodes : List Path) (ranges : ℕ → Type 0) (obstacle : Obstacle) (qs : List Asked) where
+module _ (nodes : List Path) (ranges : ℕ → Type 0) (obstacle : Obstacle) (qs : List Question) where
   pub hindered-none : HasHindered nodes ranges obstacle (take 0 qs) → ⊥
   hindered-none h = nothing h.0 h.1
 
   pub hindered-all : (n : ℕ) → length qs ≤ n → (HasHindered nodes ranges obstacle (take n qs) → ⊥) → HasHindered nodes ranges obstacle qs → ⊥
-  hindered-all n le before h = before (subst (λ (l : List Asked). HasHindered nodes ranges obstacle l) (sym (take_all n qs le)) h)
+  hindered-all n le before h = before (subst (λ (l : List Question). HasHindered nodes ranges obstacle l) (sym (take_all n qs le)) h)
 
   -- there is one just where a first one is found
-  pub hindered-some : (o : Option Asked) → IsFirstHindered nodes ranges obstacle qs o → (is_some o ≡ true) ↔ HasHindered nodes ranges obstacle qs
+  pub hindered-some : (o : Option Question) → IsFirstHindered nodes ranges obstacle qs o → (is_some o ≡ true) ↔ HasHindered nodes ranges obstacle qs
   hindered-some None none = (λ h. absurd (false≢true h), λ h. absurd (none h))
   hindered-some (Some q) (n, at, own, before) =
-      let listed = subst (λ (p : Asked). Contains qs p) (get_or_from_slice_get qs n q q at) (Contains-get_or qs n q (slice_get_within qs n q at)) in
+      let listed = subst (λ (p : Question). Contains qs p) (get_or_from_slice_get qs n q q at) (Contains-get_or qs n q (slice_get_within qs n q at)) in
       (λ h. (q, listed, own), λ h. refl)
 
-  module _ (n : ℕ) (d : Asked) (lt : n < length qs) (read other : Access) (at_read : IsAccessOf nodes (get_or qs n d).x (get_or qs n d).a read) (at_other : IsAccessOf nodes (get_or qs n d).y (get_or qs n d).b other) (before : HasHindered nodes ranges obstacle (take n qs) → ⊥) where
+  module _ (n : ℕ) (d : Question) (lt : n < length qs) (read other : Access) (at_read : IsAccessOf nodes (get_or qs n d).x (get_or qs n d).a read) (at_other : IsAccessOf nodes (get_or qs n d).y (get_or qs n d).b other) (before : HasHindered nodes ranges obstacle (take n qs) → ⊥) where
     pub hindered-found : Hinders obstacle ranges read other → IsFirstHindered nodes ranges obstacle qs (Some (get_or qs n d))
     hindered-found h = (n, slice_get-get_or qs n d lt, record { read = read; other = other; at_read = at_read; at_other = at_other; hinders = h }, before)
 
@@ -240,8 +240,8 @@ module _ (nodes : List Path) (ranges : ℕ → Type 0) (obstacle : Obstacle) (qs
         go : Contains (take n qs) h.0 ⊎ (get_or qs n d ≡ h.0) → ⊥
         go (inl k) = before (h.0, k, h.2)
         go (inr k) =
-            let own_read = subst (λ (q : Asked). IsAccessOf nodes q.x q.a h.2.read) (sym k) h.2.at_read in
-            let own_other = subst (λ (q : Asked). IsAccessOf nodes q.y q.b h.2.other) (sym k) h.2.at_other in
+            let own_read = subst (λ (q : Question). IsAccessOf nodes q.x q.a h.2.read) (sym k) h.2.at_read in
+            let own_other = subst (λ (q : Question). IsAccessOf nodes q.y q.b h.2.other) (sym k) h.2.at_other in
             let same_read = same_access nodes (get_or qs n d).x (get_or qs n d).a h.2.read read own_read at_read in
             let same_other = same_access nodes (get_or qs n d).y (get_or qs n d).b h.2.other other own_other at_other in
             not_here (subst (λ (a : Access). Hinders obstacle ranges read a) same_other (subst (λ (a : Access). Hinders obstacle ranges a h.2.other) same_read h.2.hinders))
@@ -253,7 +253,7 @@ module _ (nodes : List Path) where
   hinders-alike P Q more UnknownKey read other h = h
   hinders-alike P Q more BodyRead read other h = h
 
-  hindered-alike : (P Q : ℕ → Type 0) → ((n : ℕ) → P n → Q n) → (obstacle : Obstacle) (q : Asked) → IsHindered nodes P obstacle q → IsHindered nodes Q obstacle q
+  hindered-alike : (P Q : ℕ → Type 0) → ((n : ℕ) → P n → Q n) → (obstacle : Obstacle) (q : Question) → IsHindered nodes P obstacle q → IsHindered nodes Q obstacle q
   hindered-alike P Q more obstacle q h = record {
     read = h.read;
     other = h.other;
@@ -262,33 +262,33 @@ module _ (nodes : List Path) where
     hinders = hinders-alike P Q more obstacle h.read h.other h.hinders;
   }
 
-  pub first-alike : (P Q : ℕ → Type 0) → ((n : ℕ) → P n → Q n) → ((n : ℕ) → Q n → P n) → (obstacle : Obstacle) (qs : List Asked) (o : Option Asked) → IsFirstHindered nodes P obstacle qs o → IsFirstHindered nodes Q obstacle qs o
+  pub first-alike : (P Q : ℕ → Type 0) → ((n : ℕ) → P n → Q n) → ((n : ℕ) → Q n → P n) → (obstacle : Obstacle) (qs : List Question) (o : Option Question) → IsFirstHindered nodes P obstacle qs o → IsFirstHindered nodes Q obstacle qs o
   first-alike P Q more less obstacle qs None none = λ h. none (h.0, h.1, hindered-alike Q P less obstacle h.0 h.2)
   first-alike P Q more less obstacle qs (Some q) (n, at, own, before) =
       (n, at, hindered-alike P Q more obstacle q own, λ h. before (h.0, h.1, hindered-alike Q P less obstacle h.0 h.2))
 
 -- ---- obstacles of a pair
 
-pub HasRead-each : (nodes : List Path) (pair : Pair) (qs : List Asked) → AreExposed nodes pair qs → All (λ (q : Asked). HasRead nodes q) qs
+pub HasRead-each : (nodes : List Path) (pair : Pair) (qs : List Question) → AreExposed nodes pair qs → All (λ (q : Question). HasRead nodes q) qs
 HasRead-each nodes pair qs exposed k d lt =
     let o = exposed.only (get_or qs k d) (Contains-get_or qs k d lt) in
-    (o.0.question.mine, subst (λ (r : Question). IsAccessOf nodes r.x r.a o.0.question.mine) o.1 o.0.question.asked.at_mine)
+    (o.0.question.mine, subst (λ (r : QuestionNumbers). IsAccessOf nodes r.x r.a o.0.question.mine) o.1 o.0.question.asked.at_mine)
 
-pub HasBoth-each : (nodes : List Path) (pair : Pair) (qs : List Asked) → AreExposed nodes pair qs → All (λ (q : Asked). HasBoth nodes q) qs
+pub HasBoth-each : (nodes : List Path) (pair : Pair) (qs : List Question) → AreExposed nodes pair qs → All (λ (q : Question). HasBoth nodes q) qs
 HasBoth-each nodes pair qs exposed k d lt =
     let o = exposed.only (get_or qs k d) (Contains-get_or qs k d lt) in (
-      (o.0.question.mine, subst (λ (r : Question). IsAccessOf nodes r.x r.a o.0.question.mine) o.1 o.0.question.asked.at_mine),
-      (o.0.question.theirs, subst (λ (r : Question). IsAccessOf nodes r.y r.b o.0.question.theirs) o.1 o.0.question.asked.at_theirs),
+      (o.0.question.mine, subst (λ (r : QuestionNumbers). IsAccessOf nodes r.x r.a o.0.question.mine) o.1 o.0.question.asked.at_mine),
+      (o.0.question.theirs, subst (λ (r : QuestionNumbers). IsAccessOf nodes r.y r.b o.0.question.theirs) o.1 o.0.question.asked.at_theirs),
     )
 
-module _ (draft : DraftTree) (nodes : List Path) (is : nodes ≡ paths_of draft) (pair : Pair) (qs : List Asked) (exposed : AreExposed nodes pair qs) where
+module _ (draft : DraftTree) (nodes : List Path) (is : nodes ≡ paths_of draft) (pair : Pair) (qs : List Question) (exposed : AreExposed nodes pair qs) where
   -- an exposed question of the pair that an obstacle hinders
   of_hindered : (ranges : ℕ → Type 0) (obstacle : Obstacle) → HasHindered nodes ranges obstacle qs → (e : ExposedOf nodes pair) × Hinders obstacle ranges e.question.mine e.question.theirs
   of_hindered ranges obstacle h =
       let o = exposed.only h.0 h.1 in
       let w = h.2 in
-      let mine = subst (λ (r : Question). IsAccessOf nodes r.x r.a o.0.question.mine) o.1 o.0.question.asked.at_mine in
-      let theirs = subst (λ (r : Question). IsAccessOf nodes r.y r.b o.0.question.theirs) o.1 o.0.question.asked.at_theirs in
+      let mine = subst (λ (r : QuestionNumbers). IsAccessOf nodes r.x r.a o.0.question.mine) o.1 o.0.question.asked.at_mine in
+      let theirs = subst (λ (r : QuestionNumbers). IsAccessOf nodes r.y r.b o.0.question.theirs) o.1 o.0.question.asked.at_theirs in
       let same_read = same_access nodes h.0.x h.0.a o.0.question.mine w.read mine w.at_read in
       let same_other = same_access nodes h.0.y h.0.b o.0.question.theirs w.other theirs w.at_other in
       (o.0, subst (λ (a : Access). Hinders obstacle ranges o.0.question.mine a) (sym same_other) (subst (λ (a : Access). Hinders obstacle ranges a w.other) (sym same_read) w.hinders))
@@ -301,8 +301,8 @@ module _ (draft : DraftTree) (nodes : List Path) (is : nodes ≡ paths_of draft)
         record {
           read = e.question.mine;
           other = e.question.theirs;
-          at_read = subst (λ (r : Question). IsAccessOf nodes r.x r.a e.question.mine) q.2 e.question.asked.at_mine;
-          at_other = subst (λ (r : Question). IsAccessOf nodes r.y r.b e.question.theirs) q.2 e.question.asked.at_theirs;
+          at_read = subst (λ (r : QuestionNumbers). IsAccessOf nodes r.x r.a e.question.mine) q.2 e.question.asked.at_mine;
+          at_other = subst (λ (r : QuestionNumbers). IsAccessOf nodes r.y r.b e.question.theirs) q.2 e.question.asked.at_theirs;
           hinders = h;
         },
       )

@@ -7,9 +7,9 @@ use Rattle.std.proofs.lemmas.List.Folds.{Any-from_list_any, list_any-from_Any}
 use Rattle.std.proofs.lemmas.List.Elements.{Contains-push_cases, Contains-append_left, Contains-push}
 use Rattle.prog_check.specs.declared.path.Access.{Access}
 use Rattle.prog_check.specs.declared.path.Path.{Path}
-use Rattle.prog_paths.specs.StaticGraph.{IsAccessOf, Question}
+use Rattle.prog_paths.specs.StaticGraph.{IsAccessOf, QuestionNumbers}
 use Rattle.prog_paths.specs.Questions.{numbers_of}
-use Rattle.prog_paths.specs.declared.accesses.places.Question.{Question as Asked}
+use Rattle.prog_paths.specs.declared.accesses.places.Question.{Question}
 use Rattle.repair_laws.specs.declared.plan.Pair.{Pair}
 use Rattle.repair_laws.specs.Keys.{ExposedOf}
 use Rattle.repair_laws.specs.Promoted.{IsExposedAt, MarksExposed}
@@ -19,12 +19,12 @@ use Rattle.si_repair.specs.Promoting.{place_in, access_at, place_of, reads_at}
 -- ---- the statement of a question
 
 -- an access that is there has its statement's number
-pub place-is : (nodes : List Path) (q : Asked) (access : Access) → IsAccessOf nodes q.x q.a access → place_of nodes q ≡ access.place
+pub place-is : (nodes : List Path) (q : Question) (access : Access) → IsAccessOf nodes q.x q.a access → place_of nodes q ≡ access.place
 place-is nodes q access h = ap (λ o. place_in (access_at o q.a)) h.1 ∙ ap place_in h.2
 
 -- the access of an exposed question is there
-exposed-access : (nodes : List Path) (pair : Pair) (q : Asked) (e : ExposedOf nodes pair) → e.question.question ≡ numbers_of q → IsAccessOf nodes q.x q.a e.question.mine
-exposed-access nodes pair q e same = subst (λ (n : Question). IsAccessOf nodes n.x n.a e.question.mine) same e.question.asked.at_mine
+exposed-access : (nodes : List Path) (pair : Pair) (q : Question) (e : ExposedOf nodes pair) → e.question.question ≡ numbers_of q → IsAccessOf nodes q.x q.a e.question.mine
+exposed-access nodes pair q e same = subst (λ (n : QuestionNumbers). IsAccessOf nodes n.x n.a e.question.mine) same e.question.asked.at_mine
 
 -- ---- the statements of a pair's exposed reads
 
@@ -39,7 +39,7 @@ AddsReads nodes pair old new =
     (program number : ℕ)
     → (new program number ≡ true) ↔ ((old program number ≡ true) ⊎ HasExposedRead nodes pair program number)
 
-module _ (nodes : List Path) (pair : Pair) (questions : List Asked) (exposed : AreExposed nodes pair questions) (program number : ℕ) where
+module _ (nodes : List Path) (pair : Pair) (questions : List Question) (exposed : AreExposed nodes pair questions) (program number : ℕ) where
   read-exposed : list_any (reads_at nodes pair program number) questions ≡ true → HasExposedRead nodes pair program number
   read-exposed h =
       let any = Any-from_list_any (reads_at nodes pair program number) questions h in
@@ -58,7 +58,7 @@ module _ (nodes : List Path) (pair : Pair) (questions : List Asked) (exposed : A
       (at.0, q, at.1, at.2, and_from (pair.from == program) (place_of nodes q == number) (eq-eqb pair.from program h.0) (eq-eqb (place_of nodes q) number place))
 
 -- marks that are the old ones and those of each question add the reads of the pair
-pub adds-reads : (nodes : List Path) (pair : Pair) (questions : List Asked) (old new : ℕ → ℕ → Bool) → AreExposed nodes pair questions
+pub adds-reads : (nodes : List Path) (pair : Pair) (questions : List Question) (old new : ℕ → ℕ → Bool) → AreExposed nodes pair questions
     → ((program number : ℕ) → new program number ≡ (old program number || list_any (reads_at nodes pair program number) questions))
     → AddsReads nodes pair old new
 adds-reads nodes pair questions old new exposed is program number = (to, from)

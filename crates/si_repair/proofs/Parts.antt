@@ -3,7 +3,7 @@ use Rattle.std.proofs.Common.{◌⊎◌, inl, inr, Bool, true, false, List, [], 
 use Rattle.std.specs.Prelude.{if◌then◌else◌, Contains}
 use Rattle.std.proofs.lemmas.List.Elements.{Contains-append_left, Contains-append_right, Contains-append_cases}
 use Rattle.prog_paths.specs.declared.accesses.places.Placed.{Placed}
-use Rattle.prog_paths.specs.declared.accesses.places.Question.{Question as Asked}
+use Rattle.prog_paths.specs.declared.accesses.places.Question.{Question}
 use Rattle.prog_paths.specs.Questions.{asks, question_between, asked_by, asked_among}
 use Rattle.si_repair.specs.Exposed.{IsPart}
 
@@ -40,11 +40,11 @@ part-trans {A = A} (x ∷ xs) ys zs (inr (tail, e, h)) k = go (subst (λ (l : Li
 
 -- ---- questions
 
-skipped : (b : Bool) (q : Asked) (whole part : List Asked) → IsPart whole part → IsPart (if b then q ∷ whole else whole) part
+skipped : (b : Bool) (q : Question) (whole part : List Question) → IsPart whole part → IsPart (if b then q ∷ whole else whole) part
 skipped true q whole part h = inl h
 skipped false q whole part h = h
 
-taken : (b : Bool) (q : Asked) (whole part : List Asked) → IsPart whole part → IsPart (if b then q ∷ whole else whole) (if b then q ∷ part else part)
+taken : (b : Bool) (q : Question) (whole part : List Question) → IsPart whole part → IsPart (if b then q ∷ whole else whole) (if b then q ∷ part else part)
 taken true q whole part h = inr (part, refl, h)
 taken false q whole part h = h
 

@@ -9,10 +9,10 @@ use Rattle.prog_check.specs.declared.path.Term.TheVariants.{Param}
 use Rattle.prog_check.specs.declared.path.Access.{Access}
 use Rattle.prog_check.specs.declared.path.Path.{Path}
 use Rattle.prog_paths.specs.Meeting.{IsSingle}
-use Rattle.prog_paths.specs.StaticGraph.{Question, AsksOf}
+use Rattle.prog_paths.specs.StaticGraph.{QuestionNumbers, AsksOf}
 use Rattle.prog_paths.specs.Facts.{AreEqualWhereTheyMeet}
 use Rattle.prog_paths.specs.declared.accesses.places.Placed.{Placed}
-use Rattle.prog_paths.specs.declared.accesses.places.Question.{Question as Asked}
+use Rattle.prog_paths.specs.declared.accesses.places.Question.{Question}
 use Rattle.prog_paths.specs.Questions.{numbers_of, question_between, ChangesSingleCells}
 use Rattle.prog_paths.specs.Places.{IsAt}
 use Rattle.prog_paths.proofs.Facts.{law_of_equal_terms}
@@ -180,7 +180,7 @@ module _ (facts : List Fact) where
 
 -- ---- what a question forces
 
-single_theirs : (nodes : List Path) (q : Asked) (mine theirs : Access) → All ChangesSingleCells nodes → AreMissed nodes q mine theirs → IsSingle theirs
+single_theirs : (nodes : List Path) (q : Question) (mine theirs : Access) → All ChangesSingleCells nodes → AreMissed nodes q mine theirs → IsSingle theirs
 single_theirs nodes q mine theirs all h =
     let at = h.asked.at_theirs in
     let inside = slice_get_within nodes q.y at.0 at.1 in
@@ -188,15 +188,15 @@ single_theirs nodes q mine theirs all h =
     (may_touch-second (numbers_of q) mine theirs (inl h.kinds))
 
 -- one question makes two parameters equal wherever it meets
-abbrev ForcesEqual : List Path → Asked → ℕ → ℕ → Type 0
+abbrev ForcesEqual : List Path → Question → ℕ → ℕ → Type 0
 ForcesEqual nodes q i j = (mine theirs : Access) → AreMissed nodes q mine theirs → AreEqualWhereTheyMeet mine theirs (Param i) (Param j)
 
-forces-put : (nodes : List Path) (q : Asked) (facts : List Fact) (i j : ℕ) → All ChangesSingleCells nodes → AreFactsOf nodes q facts → PutEqual facts (i, j) → ForcesEqual nodes q i j
+forces-put : (nodes : List Path) (q : Question) (facts : List Fact) (i j : ℕ) → All ChangesSingleCells nodes → AreFactsOf nodes q facts → PutEqual facts (i, j) → ForcesEqual nodes q i j
 forces-put nodes q facts i j all is put mine theirs h =
     (law_of_equal_terms mine theirs h.asked.table (single_theirs nodes q mine theirs all h) (Param i) (Param j)).0
     (subst (λ (fs : List Fact). PutEqual fs (i, j)) (is mine theirs h.asked) put)
 
-put-forces : (nodes : List Path) (q : Asked) (facts : List Fact) (i j : ℕ) → All ChangesSingleCells nodes → AreFactsOf nodes q facts → IsMissed nodes q → ForcesEqual nodes q i j → PutEqual facts (i, j)
+put-forces : (nodes : List Path) (q : Question) (facts : List Fact) (i j : ℕ) → All ChangesSingleCells nodes → AreFactsOf nodes q facts → IsMissed nodes q → ForcesEqual nodes q i j → PutEqual facts (i, j)
 put-forces nodes q facts i j all is missed f =
     let mine = missed.0 in
     let theirs = missed.1 in
@@ -213,7 +213,7 @@ module _ (nodes : List Path) (firsts seconds : ℕ) where
   })
 
   -- one more question
-  AreForced-push : (qs : List Asked) (next : Asked) (facts : List Fact) (old new : List (ℕ × ℕ)) → All ChangesSingleCells nodes → IsMissed nodes next → AreFactsOf nodes next facts → AreLeft facts old new → AreForced nodes qs firsts seconds old → AreForced nodes (qs ++ next ∷ []) firsts seconds new
+  AreForced-push : (qs : List Question) (next : Question) (facts : List Fact) (old new : List (ℕ × ℕ)) → All ChangesSingleCells nodes → IsMissed nodes next → AreFactsOf nodes next facts → AreLeft facts old new → AreForced nodes qs firsts seconds old → AreForced nodes (qs ++ next ∷ []) firsts seconds new
   AreForced-push qs next facts old new all missed is left h = record { only = only; each = each; rise = left.rise h.rise }
     where
       only : (i j : ℕ) → Contains new (i, j) → (i < firsts) × (j < seconds) × ForceEqual nodes (qs ++ next ∷ []) i j
@@ -222,37 +222,37 @@ module _ (nodes : List Path) (firsts seconds : ℕ) where
           let o = h.only i j l.0 in
           (o.0, o.1, λ q k. go q l.1 o.2 (Contains-push_cases qs next q k))
         where
-          go : (q : Asked) → PutEqual facts (i, j) → ForceEqual nodes qs i j → Contains qs q ⊎ (next ≡ q) → ForcesEqual nodes q i j
+          go : (q : Question) → PutEqual facts (i, j) → ForceEqual nodes qs i j → Contains qs q ⊎ (next ≡ q) → ForcesEqual nodes q i j
           go q put before (inl k) = before q k
-          go q put before (inr k) = subst (λ (r : Asked). ForcesEqual nodes r i j) k (forces-put nodes next facts i j all is put)
+          go q put before (inr k) = subst (λ (r : Question). ForcesEqual nodes r i j) k (forces-put nodes next facts i j all is put)
 
       each : (i j : ℕ) → i < firsts → j < seconds → ForceEqual nodes (qs ++ next ∷ []) i j → Contains new (i, j)
       each i j a b f =
           left.each (i, j) (h.each i j a b (λ q k. f q (Contains-append_left qs (next ∷ []) q k)))
           (put-forces nodes next facts i j all is missed (f next (Contains-push qs next)))
 
-  pub AreForced-more : (earlier qs : List Asked) (n : ℕ) (d : Asked) (facts : List Fact) (old new : List (ℕ × ℕ)) → n < length qs → All ChangesSingleCells nodes → IsMissed nodes (get_or qs n d) → AreFactsOf nodes (get_or qs n d) facts → AreLeft facts old new → AreForced nodes (earlier ++ take n qs) firsts seconds old → AreForced nodes (earlier ++ take (n + 1) qs) firsts seconds new
+  pub AreForced-more : (earlier qs : List Question) (n : ℕ) (d : Question) (facts : List Fact) (old new : List (ℕ × ℕ)) → n < length qs → All ChangesSingleCells nodes → IsMissed nodes (get_or qs n d) → AreFactsOf nodes (get_or qs n d) facts → AreLeft facts old new → AreForced nodes (earlier ++ take n qs) firsts seconds old → AreForced nodes (earlier ++ take (n + 1) qs) firsts seconds new
   AreForced-more earlier qs n d facts old new lt all missed is left h =
-      subst (λ (l : List Asked). AreForced nodes l firsts seconds new)
-      (append_assoc earlier (take n qs) (get_or qs n d ∷ []) ∙ ap (λ (l : List Asked). earlier ++ l) (sym (take_more qs n d lt)))
+      subst (λ (l : List Question). AreForced nodes l firsts seconds new)
+      (append_assoc earlier (take n qs) (get_or qs n d ∷ []) ∙ ap (λ (l : List Question). earlier ++ l) (sym (take_more qs n d lt)))
       (AreForced-push (earlier ++ take n qs) (get_or qs n d) facts old new all missed is left h)
 
 -- ---- the key
 
-moved : (nodes : List Path) (pair : Pair) (e : ExposedOf nodes pair) (q : Asked) → e.question.question ≡ numbers_of q → AreMissed nodes q e.question.mine e.question.theirs
-moved nodes pair e q is = record { asked = subst (λ (r : Question). AsksOf nodes r e.question.mine e.question.theirs) is e.question.asked; kinds = e.question.kinds }
+moved : (nodes : List Path) (pair : Pair) (e : ExposedOf nodes pair) (q : Question) → e.question.question ≡ numbers_of q → AreMissed nodes q e.question.mine e.question.theirs
+moved nodes pair e q is = record { asked = subst (λ (r : QuestionNumbers). AsksOf nodes r e.question.mine e.question.theirs) is e.question.asked; kinds = e.question.kinds }
 
 -- what one access may miss of others is missed
-pub missed_by : (nodes : List Path) (first : Placed) (seconds : List Placed) (qs : List Asked) → IsAt nodes first → All (λ (p : Placed). IsAt nodes p) seconds → AreExposedAmong nodes (first ∷ []) seconds qs → All (λ (q : Asked). IsMissed nodes q) qs
+pub missed_by : (nodes : List Path) (first : Placed) (seconds : List Placed) (qs : List Question) → IsAt nodes first → All (λ (p : Placed). IsAt nodes p) seconds → AreExposedAmong nodes (first ∷ []) seconds qs → All (λ (q : Question). IsMissed nodes q) qs
 missed_by nodes first seconds qs at all h k d lt =
     let b = h.only (get_or qs k d) (Contains-get_or qs k d lt) in
     let at_first = subst (λ (p : Placed). IsAt nodes p) (only_one first b.first b.in_firsts) at in
     let at_second = All-contains (λ (p : Placed). IsAt nodes p) seconds b.second all b.in_seconds in
     let missed : AreMissed nodes (question_between b.first b.second) b.first.access b.second.access = record { asked = record { at_mine = at_first; at_theirs = at_second; table = b.exposed.misses.table }; kinds = b.exposed.misses.kinds } in
-    (b.first.access, b.second.access, subst (λ (q : Asked). AreMissed nodes q b.first.access b.second.access) (sym b.is) missed)
+    (b.first.access, b.second.access, subst (λ (q : Question). AreMissed nodes q b.first.access b.second.access) (sym b.is) missed)
 
 -- what the pair forces equal, each list of some of its exposed questions does
-by-forced : (nodes : List Path) (pair : Pair) (qs : List Asked) → ((q : Asked) → Contains qs q → (e : ExposedOf nodes pair) × (e.question.question ≡ numbers_of q)) → (i j : ℕ) → IsForcedEqual nodes pair i j → ForceEqual nodes qs i j
+by-forced : (nodes : List Path) (pair : Pair) (qs : List Question) → ((q : Question) → Contains qs q → (e : ExposedOf nodes pair) × (e.question.question ≡ numbers_of q)) → (i j : ℕ) → IsForcedEqual nodes pair i j → ForceEqual nodes qs i j
 by-forced nodes pair qs only i j f q c mine theirs h =
     let o = only q c in
     let e = o.0 in
@@ -262,7 +262,7 @@ by-forced nodes pair qs only i j f q c mine theirs h =
     subst (λ (t : Access). AreEqualWhereTheyMeet mine t (Param i) (Param j)) same_theirs
     (subst (λ (m : Access). AreEqualWhereTheyMeet m e.question.theirs (Param i) (Param j)) same_mine (f e))
 
-module _ (nodes : List Path) (pair : Pair) (qs : List Asked) (exposed : AreExposed nodes pair qs) where
+module _ (nodes : List Path) (pair : Pair) (qs : List Question) (exposed : AreExposed nodes pair qs) where
   forced-by : (i j : ℕ) → ForceEqual nodes qs i j → IsForcedEqual nodes pair i j
   forced-by i j f e = let q = exposed.each e in f q.0 q.1 e.question.mine e.question.theirs (moved nodes pair e q.0 q.2)
 
@@ -298,7 +298,7 @@ module _ (nodes : List Path) (pair : Pair) (xs ys : List Placed) (reads : ArePla
       among_all : (x : Placed) → Contains (take h.asked xs) x → Contains xs x
       among_all x c = subst (λ (l : List Placed). Contains l x) (take-append-drop h.asked xs) (Contains-append_left (take h.asked xs) (drop h.asked xs) x c)
 
-      only : (q : Asked) → Contains h.questions q → (e : ExposedOf nodes pair) × (e.question.question ≡ numbers_of q)
+      only : (q : Question) → Contains h.questions q → (e : ExposedOf nodes pair) × (e.question.question ≡ numbers_of q)
       only q c = of_pair-exposed nodes pair xs ys reads changes q (first_moved nodes (take h.asked xs) xs ys q among_all (h.exposed.only q c))
 
       go : (length xs ≤ h.asked) ⊎ (pairs ≡ []) → IsKeyOf nodes pair firsts seconds (slice_get pairs 0)

@@ -3,7 +3,7 @@ use Rattle.std.specs.Prelude.{◌≡◌, ◌⊎◌, ℕ, List, [], ◌∷◌, ta
 use Rattle.prog_check.specs.declared.path.Path.{Path}
 use Rattle.prog_paths.specs.StaticGraph.{AsksReadWrite, IsExposed}
 use Rattle.prog_paths.specs.declared.accesses.places.Placed.{Placed}
-use Rattle.prog_paths.specs.declared.accesses.places.Question.{Question as Asked}
+use Rattle.prog_paths.specs.declared.accesses.places.Question.{Question}
 use Rattle.prog_paths.specs.Questions.{all_from, numbers_of, question_between, asked_among, questions_of}
 use Rattle.prog_paths.specs.Listing.{IsBefore}
 use Rattle.prog_paths.specs.Places.{IsAt}
@@ -19,33 +19,33 @@ IsPart {A = A} (x ∷ rest) part = IsPart rest part ⊎ ((tail : List A) × (par
 
 -- these are the exposed questions of the pair: some of all questions of the paths, in their order; each one listed is
 -- exposed, and each is listed
-pub record AreExposed (nodes : List Path) (pair : Pair) (questions : List Asked) : Type 0 where
+pub record AreExposed (nodes : List Path) (pair : Pair) (questions : List Question) : Type 0 where
   pub part : IsPart (questions_of nodes) questions
-  pub only : (q : Asked) → Contains questions q
+  pub only : (q : Question) → Contains questions q
       → (e : ExposedOf nodes pair) × (e.question.question ≡ numbers_of q)
   pub each : (e : ExposedOf nodes pair)
-      → (q : Asked) × Contains questions q × (e.question.question ≡ numbers_of q)
+      → (q : Question) × Contains questions q × (e.question.question ≡ numbers_of q)
 
 -- the first of all questions of the paths that is exposed, and of the pair
-pub record IsFirstOfExposed (nodes : List Path) (pair : Pair) (q : Asked) : Type 0 where
+pub record IsFirstOfExposed (nodes : List Path) (pair : Pair) (q : Question) : Type 0 where
   pub listed : Contains (questions_of nodes) q
   pub exposed : (e : ExposedOf nodes pair) × (e.question.question ≡ numbers_of q)
   pub first : (e : ExposedOf nodes pair)
       → (e.question.question ≡ numbers_of q) ⊎ IsBefore (numbers_of q) e.question.question
 
 -- the same, or that the pair has none
-abbrev pub IsFirstExposed : List Path → Pair → Option Asked → Type 0
+abbrev pub IsFirstExposed : List Path → Pair → Option Question → Type 0
 IsFirstExposed nodes pair None = ¬ ExposedOf nodes pair
 IsFirstExposed nodes pair (Some q) = IsFirstOfExposed nodes pair q
 
 -- ---- accesses
 
 -- the first access of a question is there
-abbrev pub HasRead : List Path → Asked → Type 0
+abbrev pub HasRead : List Path → Question → Type 0
 HasRead nodes q = HasAccess nodes q.x q.a
 
 -- both accesses of a question are there
-abbrev pub HasBoth : List Path → Asked → Type 0
+abbrev pub HasBoth : List Path → Question → Type 0
 HasBoth nodes q = HasAccess nodes q.x q.a × HasAccess nodes q.y q.b
 
 -- the accesses on a program's paths, at their places and in order
@@ -72,7 +72,7 @@ pub record IsExposedTo (nodes : List Path) (first second : Placed) : Type 0 wher
   pub exposed : IsExposed nodes (numbers_of (question_between first second)) first.access second.access
 
 -- the question of one of the first accesses that is exposed to one of the second
-pub record IsExposedOf (nodes : List Path) (firsts seconds : List Placed) (q : Asked) : Type 0 where
+pub record IsExposedOf (nodes : List Path) (firsts seconds : List Placed) (q : Question) : Type 0 where
   pub first : Placed
   pub second : Placed
   pub in_firsts : Contains firsts first
@@ -82,14 +82,14 @@ pub record IsExposedOf (nodes : List Path) (firsts seconds : List Placed) (q : A
 
 -- all such questions, by the first access and then by the second
 pub record AreExposedAmong (nodes : List Path) (firsts seconds : List Placed)
-    (questions : List Asked) : Type 0 where
+    (questions : List Question) : Type 0 where
   pub part : IsPart (asked_among firsts seconds) questions
-  pub only : (q : Asked) → Contains questions q → IsExposedOf nodes firsts seconds q
+  pub only : (q : Question) → Contains questions q → IsExposedOf nodes firsts seconds q
   pub each : (first second : Placed) → Contains firsts first → Contains seconds second
       → IsExposedTo nodes first second → Contains questions (question_between first second)
 
 -- the first such question, or that there is none: no first access ahead of its own has any
-abbrev pub IsFirstAmong : List Path → List Placed → List Placed → Option Asked → Type 0
+abbrev pub IsFirstAmong : List Path → List Placed → List Placed → Option Question → Type 0
 IsFirstAmong nodes firsts seconds None = AreExposedAmong nodes firsts seconds []
 IsFirstAmong nodes firsts seconds (Some q) =
-    (n : ℕ) × (rest : List Asked) × AreExposedAmong nodes (take n firsts) seconds (q ∷ rest)
+    (n : ℕ) × (rest : List Question) × AreExposedAmong nodes (take n firsts) seconds (q ∷ rest)

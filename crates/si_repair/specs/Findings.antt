@@ -22,7 +22,7 @@ use Rattle.si_repair.specs.declared.finding.Finding.{Finding}
 use Rattle.si_repair.specs.declared.finding.Finding.TheVariants.{Robust, Refused}
 
 -- the accesses never meet, or a pair of single cells covers what may be a read-write dependency
-abbrev pub IsHarmless : List Path → graph.Question → Access → Access → Type 0
+abbrev pub IsHarmless : List Path → graph.QuestionNumbers → Access → Access → Type 0
 IsHarmless nodes q mine theirs =
     (CanMeet mine theirs → ⊥) ⊎ (AsksReadWrite q mine.kind theirs.kind × IsCovered nodes q.x q.y mine theirs)
 
@@ -35,7 +35,7 @@ abbrev pub AsksTooMany : DraftTree → Type 0
 AsksTooMany draft = most_questions < length (questions_of (paths_of draft))
 
 -- a reason says apart of a question that can't meet, and else names the least cover; its chains have the fewest nodes
-abbrev pub IsOwnReason : List Path → graph.Question → Reason → Type 0
+abbrev pub IsOwnReason : List Path → graph.QuestionNumbers → Reason → Type 0
 IsOwnReason nodes q (Apart chain) =
     (mine theirs : Access) → AsksOf nodes q mine theirs
     → ¬ CanMeet mine theirs × FallsShortest (question_facts mine theirs) chain
@@ -51,7 +51,7 @@ IsOwnEntry nodes e = IsOwnReason nodes (question_of e) e.reason
 -- each question that is harmless has an entry
 abbrev pub TellsEach : List Path → List Entry → Type 0
 TellsEach nodes entries =
-    (q : graph.Question) → IsQuestion nodes q → (mine theirs : Access) → AsksOf nodes q mine theirs
+    (q : graph.QuestionNumbers) → IsQuestion nodes q → (mine theirs : Access) → AsksOf nodes q mine theirs
     → IsHarmless nodes q mine theirs → IsTold entries q
 
 -- for each node the number of nodes that lead to it, itself counted

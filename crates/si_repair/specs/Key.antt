@@ -9,21 +9,21 @@ use Rattle.prog_check.specs.declared.path.Path.{Path}
 use Rattle.prog_paths.specs.Facts.{question_facts, AreEqualWhereTheyMeet}
 use Rattle.prog_paths.specs.StaticGraph.{AsksOf, AsksReadWrite}
 use Rattle.prog_paths.specs.declared.accesses.places.Placed.{Placed}
-use Rattle.prog_paths.specs.declared.accesses.places.Question.{Question as Asked}
+use Rattle.prog_paths.specs.declared.accesses.places.Question.{Question}
 use Rattle.prog_paths.specs.Questions.{numbers_of}
 use Rattle.si_repair.specs.Exposed.{AreExposedAmong}
 
 -- the two accesses are those of a question whose first may miss what its second changes
-pub record AreMissed (nodes : List Path) (q : Asked) (mine theirs : Access) : Type 0 where
+pub record AreMissed (nodes : List Path) (q : Question) (mine theirs : Access) : Type 0 where
   pub asked : AsksOf nodes (numbers_of q) mine theirs
   pub kinds : AsksReadWrite (numbers_of q) mine.kind theirs.kind
 
 -- some accesses are
-abbrev pub IsMissed : List Path → Asked → Type 0
+abbrev pub IsMissed : List Path → Question → Type 0
 IsMissed nodes q = (mine : Access) × (theirs : Access) × AreMissed nodes q mine theirs
 
 -- these are the facts of the question
-abbrev pub AreFactsOf : List Path → Asked → List Fact → Type 0
+abbrev pub AreFactsOf : List Path → Question → List Fact → Type 0
 AreFactsOf nodes q facts =
     (mine theirs : Access) → AsksOf nodes (numbers_of q) mine theirs → facts ≡ question_facts mine theirs
 
@@ -32,9 +32,9 @@ abbrev pub PutEqual : List Fact → ℕ × ℕ → Type 0
 PutEqual facts p = ForcesEqual facts (Mine p.0) (Theirs p.1)
 
 -- wherever one of the questions meets, this parameter of the first program is this one of the second
-abbrev pub ForceEqual : List Path → List Asked → ℕ → ℕ → Type 0
+abbrev pub ForceEqual : List Path → List Question → ℕ → ℕ → Type 0
 ForceEqual nodes questions i j =
-    (q : Asked) → Contains questions q → (mine theirs : Access) → AreMissed nodes q mine theirs
+    (q : Question) → Contains questions q → (mine theirs : Access) → AreMissed nodes q mine theirs
     → AreEqualWhereTheyMeet mine theirs (Param i) (Param j)
 
 -- ---- pairs of parameters
@@ -65,7 +65,7 @@ all_pairs zero seconds = []
 all_pairs (suc n) seconds = all_pairs n seconds ++ params_with n seconds
 
 -- the pairs of parameters that the questions force equal, in order
-pub record AreForced (nodes : List Path) (questions : List Asked) (firsts seconds : ℕ)
+pub record AreForced (nodes : List Path) (questions : List Question) (firsts seconds : ℕ)
     (pairs : List (ℕ × ℕ)) : Type 0 where
   pub only : (i j : ℕ) → Contains pairs (i, j) → (i < firsts) × (j < seconds) × ForceEqual nodes questions i j
   pub each : (i j : ℕ) → i < firsts → j < seconds → ForceEqual nodes questions i j → Contains pairs (i, j)
@@ -76,7 +76,7 @@ pub record AreForced (nodes : List Path) (questions : List Asked) (firsts second
 pub record AreForcedAmong (nodes : List Path) (reads changes : List Placed) (firsts seconds : ℕ)
     (pairs : List (ℕ × ℕ)) : Type 0 where
   pub asked : ℕ
-  pub questions : List Asked
+  pub questions : List Question
   pub exposed : AreExposedAmong nodes (take asked reads) changes questions
   pub forced : AreForced nodes questions firsts seconds pairs
   pub all : (length reads ≤ asked) ⊎ (pairs ≡ [])

@@ -7,7 +7,7 @@ use Rattle.prog_check.specs.declared.path.Path.{Path}
 use Rattle.prog_check.specs.Paths.{paths_of}
 use Rattle.prog_check.specs.Uses.{as_count}
 use Rattle.prog_paths.specs.StaticGraph.{IsAccessOf}
-use Rattle.prog_paths.specs.declared.accesses.places.Question.{Question as Asked}
+use Rattle.prog_paths.specs.declared.accesses.places.Question.{Question}
 use Rattle.repair_laws.specs.declared.plan.Pair.{Pair}
 use Rattle.repair_laws.specs.Refusals.{is_range, HasRangeRead, HasUnknownKey, IsCoverable, IsRangeAt, StopsAtBody, StopsAtKey}
 use Rattle.si_repair.specs.Exposed.{AreExposed}
@@ -52,7 +52,7 @@ Hinders UnknownKey RangeAt read other = HasUnknownKey read
 Hinders BodyRead RangeAt read other = MeetInBody read other
 
 -- it keeps that of a question
-pub record IsHindered (nodes : List Path) (RangeAt : ℕ → Type 0) (obstacle : Obstacle) (q : Asked) : Type 0 where
+pub record IsHindered (nodes : List Path) (RangeAt : ℕ → Type 0) (obstacle : Obstacle) (q : Question) : Type 0 where
   pub read : Access
   pub other : Access
   pub at_read : IsAccessOf nodes q.x q.a read
@@ -60,21 +60,21 @@ pub record IsHindered (nodes : List Path) (RangeAt : ℕ → Type 0) (obstacle :
   pub hinders : Hinders obstacle RangeAt read other
 
 -- or that of some of these
-abbrev pub HasHindered : List Path → (RangeAt : ℕ → Type 0) → Obstacle → List Asked → Type 0
+abbrev pub HasHindered : List Path → (RangeAt : ℕ → Type 0) → Obstacle → List Question → Type 0
 HasHindered nodes RangeAt obstacle questions =
-    (q : Asked) × Contains questions q × IsHindered nodes RangeAt obstacle q
+    (q : Question) × Contains questions q × IsHindered nodes RangeAt obstacle q
 
 -- the first of them that it keeps, or none
-abbrev pub IsFirstHindered : List Path → (RangeAt : ℕ → Type 0) → Obstacle → List Asked → Option Asked → Type 0
+abbrev pub IsFirstHindered : List Path → (RangeAt : ℕ → Type 0) → Obstacle → List Question → Option Question → Type 0
 IsFirstHindered nodes RangeAt obstacle questions None = ¬ HasHindered nodes RangeAt obstacle questions
 IsFirstHindered nodes RangeAt obstacle questions (Some q) =
     (n : ℕ) × (slice_get questions n ≡ Some q) × IsHindered nodes RangeAt obstacle q
     × ¬ HasHindered nodes RangeAt obstacle (take n questions)
 
 -- the same of the exposed questions of a pair
-abbrev pub IsFirstHinderedOf : DraftTree → Pair → Obstacle → Option Asked → Type 0
+abbrev pub IsFirstHinderedOf : DraftTree → Pair → Obstacle → Option Question → Type 0
 IsFirstHinderedOf draft pair obstacle found =
-    (questions : List Asked) × AreExposed (paths_of draft) pair questions
+    (questions : List Question) × AreExposed (paths_of draft) pair questions
     × IsFirstHindered (paths_of draft) (IsRangeAt draft pair.from) obstacle questions found
 
 -- The obstacle of a pair that reads a range or not, under an unknown key or not, and in a body or not: a range comes

@@ -8,7 +8,7 @@ use Rattle.prog_check.specs.declared.path.Access.{Access}
 use Rattle.prog_check.specs.declared.path.Path.{Path}
 use Rattle.prog_check.specs.Limits.{most_statements}
 use Rattle.prog_check.specs.Paths.{statement_count}
-use Rattle.prog_paths.specs.declared.accesses.places.Question.{Question as Asked}
+use Rattle.prog_paths.specs.declared.accesses.places.Question.{Question}
 use Rattle.repair_laws.specs.declared.plan.Pair.{Pair}
 use Rattle.repair_laws.specs.Promoted.{cell_read, with_keeps}
 use Rattle.repair_laws.specs.Refusals.{HasRangeRead, StopsAtKey, StopsAtBody}
@@ -37,11 +37,11 @@ place_in None = 0
 place_in (Some access) = access.place
 
 -- the number of the statement whose access asks a question
-abbrev pub place_of : List Path → Asked → ℕ
+abbrev pub place_of : List Path → Question → ℕ
 place_of nodes q = place_in (access_at (slice_get nodes q.x) q.a)
 
 -- a question of a pair is asked by the statement of this number in this program
-abbrev pub reads_at : List Path → Pair → (program number : ℕ) → Asked → Bool
+abbrev pub reads_at : List Path → Pair → (program number : ℕ) → Question → Bool
 reads_at nodes pair program number q = (pair.from == program) && (place_of nodes q == number)
 
 -- ---- statements

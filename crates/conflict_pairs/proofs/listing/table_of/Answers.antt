@@ -1,7 +1,7 @@
 use Rattle.std.proofs.Common.{List, sym, subst, ◌∙◌}
 use Rattle.std.specs.Prelude.{All}
 use Rattle.std.proofs.lemmas.List.{length-map}
-use Rattle.prog_paths.specs.declared.accesses.places.Question.{Question as Asked}
+use Rattle.prog_paths.specs.declared.accesses.places.Question.{Question}
 use Rattle.conflict_pairs.specs.Interning.{IsServed}
 use Rattle.conflict_pairs.specs.Alike.{IsAsked, IsJudgedAt, IsLike}
 use Rattle.conflict_pairs.specs.Pairing.{question_at, questions_at}
@@ -42,4 +42,4 @@ returns c =
     StandsFor-from paths (questions_at places questions.judged.items) verdicts listed.shown.sound
     (AllZip-map (question_at places) (IsJudgedAt paths) questions.judged.items verdicts c.requires.judged)
     c.requires.single c.of.result (questions_at places questions.pairs.items) questions.numbers.items
-    (subst (λ (l : List Asked). All (IsAsked paths) l) (sym listed.all) (all_asked paths)) listed.shown.served c.of.ensures.nodes c.of.ensures.verdicts c.of.ensures.entries listed.all
+    (subst (λ (l : List Question). All (IsAsked paths) l) (sym listed.all) (all_asked paths)) listed.shown.served c.of.ensures.nodes c.of.ensures.verdicts c.of.ensures.entries listed.all
