@@ -3,7 +3,7 @@ ghost use Rattle.std.specs.Prelude.{◌≡◌, ◌↔◌, ◌<◌, ◌++◌, [],
 ghost use Rattle.order_facts.specs.Chain.{Entails, IsConsistent};
 ghost use Rattle.prog_check.specs.declared.path.Access.{Access};
 ghost use Rattle.prog_check.specs.declared.path.Term.{Term};
-ghost use Rattle.prog_paths.specs.Kinds.{items_of};
+ghost use Rattle.prog_paths.specs.Kinds.{option_items};
 ghost use Rattle.prog_paths.specs.Facts.{mine_node, their_node};
 ghost use Rattle.prog_paths.specs.Shown.{Runs, ShowEqual, second_pair, key_pairs};
 ghost use Rattle.prog_paths.specs.Shown.{AllEqual, CoversBy};

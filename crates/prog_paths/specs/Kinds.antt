@@ -5,9 +5,9 @@ use Rattle.prog_check.specs.declared.path.Access.{Access}
 use Rattle.prog_paths.specs.declared.path.columns.Columns.{Columns}
 
 -- one, or none
-abbrev pub items_of : {A : Type 0} → Option A → List A
-items_of (Some x) = x ∷ []
-items_of None = []
+abbrev pub option_items : {A : Type 0} → Option A → List A
+option_items (Some x) = x ∷ []
+option_items None = []
 
 abbrev pub access_with : (table : ℕ) (columns : Columns) (sure : Bool) (place : ℕ) → Kind → Access
 access_with table columns sure place kind =

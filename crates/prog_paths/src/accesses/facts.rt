@@ -1,6 +1,6 @@
 //! The facts of a question.
 ghost use Rattle.std.specs.Prelude.{◌≡◌, ◌∷◌, [], IfOk};
-ghost use Rattle.prog_paths.specs.Kinds.{items_of};
+ghost use Rattle.prog_paths.specs.Kinds.{option_items};
 ghost use Rattle.prog_paths.specs.Facts.{mine_node, their_node, column_facts, column_or_zero, question_facts};
 ghost use Rattle.prog_paths.specs.Shown.{second_pair};
 
@@ -60,7 +60,7 @@ pub fn column_or_zero(column: Option<Column>) -> Column
 
 /// The terms of the second columns of two cells, where their table has one.
 pub fn second_terms(mine: Option<Column>, theirs: Option<Column>) -> Option<(Term, Term)>
-    ensures { items_of result ≡ second_pair mine theirs }
+    ensures { option_items result ≡ second_pair mine theirs }
 {
     if mine.is_some() || theirs.is_some() {
         Some((column_or_zero(mine).low, column_or_zero(theirs).low))

@@ -6,7 +6,7 @@ ghost use Rattle.prog_tree.specs.Tree.{stmt_tree};
 ghost use Rattle.prog_check.specs.Accesses.{grows_used, number_used};
 ghost use Rattle.prog_check.specs.Tables.{declaration, grows};
 ghost use Rattle.prog_check.specs.Uses.{used_table_by};
-ghost use Rattle.prog_paths.specs.Kinds.{items_of};
+ghost use Rattle.prog_paths.specs.Kinds.{option_items};
 ghost use Rattle.prog_paths.specs.Trails.{kinds_by};
 
 use prog_check::{Kind, ProgramSet};
@@ -14,7 +14,7 @@ use prog_tree::{Name, Stmt};
 
 /// The kinds of a statement's accesses, one or two in a row.
 pub fn kinds(grow: bool, stmt: &Stmt) -> (Option<Kind>, Option<Kind>)
-    ensures { items_of result.0 ++ items_of result.1 ≡ kinds_by grow (stmt_tree stmt.now) }
+    ensures { option_items result.0 ++ option_items result.1 ≡ kinds_by grow (stmt_tree stmt.now) }
 {
     match stmt {
         Stmt::Get { .. } | Stmt::Count { .. } | Stmt::Sum { .. } | Stmt::Each { .. } => {

@@ -1,7 +1,7 @@
 //! Ways through a program as far as they have come.
 ghost use Rattle.std.specs.Prelude.{◌≡◌, ◌<◌, ◌++◌, map, IfOk, OnOk};
 ghost use Rattle.prog_tree.specs.Tree.{stmt_tree};
-ghost use Rattle.prog_paths.specs.Kinds.{items_of, access_with};
+ghost use Rattle.prog_paths.specs.Kinds.{option_items, access_with};
 ghost use Rattle.prog_paths.specs.Trails.{past, with_choice};
 
 use crate::limits::MAX_UNKNOWNS;
@@ -57,7 +57,7 @@ fn add_access(
     kind: Option<Kind>,
 ) -> Result<(), AllocError>
     ensures { OnOk result (accesses.new
-        ≡ accesses.old ++ map (access_with table columns sure place) (items_of kind)) }
+        ≡ accesses.old ++ map (access_with table columns sure place) (option_items kind)) }
 {
     if let Some(kind) = kind {
         accesses.push(Access {

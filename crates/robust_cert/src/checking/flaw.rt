@@ -3,7 +3,7 @@ ghost use Rattle.std.specs.Prelude.{◌≡◌, ◌↔◌, ◌*◌, ℕ, length, 
 ghost use Rattle.prog_check.specs.declared.path.Access.{Access};
 ghost use Rattle.prog_paths.specs.StaticGraph.{IsAccessOf};
 ghost use Rattle.prog_paths.specs.Questions.{IsQuestion};
-ghost use Rattle.prog_paths.specs.Kinds.{items_of};
+ghost use Rattle.prog_paths.specs.Kinds.{option_items};
 ghost use Rattle.prog_paths.specs.Facts.{mine_node, their_node};
 ghost use Rattle.prog_paths.specs.Shown.{Runs, key_pairs, ShowEqual};
 ghost use Rattle.robust_cert.specs.Accepted.{numbers_told, IsFitting, ChainsHold};
@@ -71,7 +71,8 @@ fn run_both(asked: AskedPair<'_>, mine: Term, theirs: Term, there: &[Node], back
 }
 
 fn show_second(asked: AskedPair<'_>, terms: Option<(Term, Term)>, chains: &[Chain]) -> bool
-    ensures { IsTrue result ↔ ShowEqual (facts_between asked.entry) (items_of terms) chains.now }
+    ensures { IsTrue result
+        ↔ ShowEqual (facts_between asked.entry) (option_items terms) chains.now }
 {
     match (terms, chains) {
         (None, []) => true,

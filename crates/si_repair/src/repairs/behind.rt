@@ -5,7 +5,7 @@ ghost use Rattle.prog_tree.specs.Syntax as s;
 ghost use Rattle.prog_tree.specs.Tree.{key_tree, stmt_tree, block_tree, program_tree, draft_tree};
 ghost use Rattle.prog_check.specs.Paths.{statement_count};
 ghost use Rattle.prog_check.specs.Sound.{IsSound};
-ghost use Rattle.prog_paths.specs.Kinds.{items_of};
+ghost use Rattle.prog_paths.specs.Kinds.{option_items};
 ghost use Rattle.repair_laws.specs.Promoted.{keep_of, with_keeps, all_with_keeps, promoted_by};
 ghost use Rattle.si_repair.specs.Promoting.{is_marked, cell_read_by, count_by, with_keeps_in, HasFewStatements, promoted_program};
 
@@ -42,7 +42,7 @@ fn keep_cell(alloc: Global, table: &Name, key: &Key) -> Result<Stmt, AllocError>
 
 /// The keep of the cell that a statement reads, if it reads one.
 fn keep_of(alloc: Global, stmt: &Stmt) -> Result<Option<Stmt>, AllocError>
-    ensures { IfOk result (λ keep. map stmt_tree (items_of keep)
+    ensures { IfOk result (λ keep. map stmt_tree (option_items keep)
         ≡ map Plain (keep_of (cell_read_by (stmt_tree stmt.now)))) }
 {
     match stmt {
@@ -65,7 +65,7 @@ fn keep_of(alloc: Global, stmt: &Stmt) -> Result<Option<Stmt>, AllocError>
 
 /// What stands behind a statement: the keep of its cell where it is marked.
 fn keep_behind(alloc: Global, marked: bool, stmt: &Stmt) -> Result<Option<Stmt>, AllocError>
-    ensures { IfOk result (λ keep. map stmt_tree (items_of keep)
+    ensures { IfOk result (λ keep. map stmt_tree (option_items keep)
         ≡ map Plain (if marked then keep_of (cell_read_by (stmt_tree stmt.now)) else [])) }
 {
     if marked {
@@ -77,7 +77,7 @@ fn keep_behind(alloc: Global, marked: bool, stmt: &Stmt) -> Result<Option<Stmt>,
 
 /// Adds a statement, where there is one.
 fn push_some(stmts: &mut Vec<Stmt>, stmt: Option<Stmt>) -> Result<(), AllocError>
-    ensures { OnOk result (stmts.new.items ≡ stmts.old.items ++ items_of stmt) }
+    ensures { OnOk result (stmts.new.items ≡ stmts.old.items ++ option_items stmt) }
 {
     if let Some(stmt) = stmt {
         stmts.push(stmt)?;

@@ -4,7 +4,7 @@ use Rattle.prog_tree.specs.Syntax.{Plain, Fork}
 use Rattle.prog_tree.specs.Tree.{stmt_tree, block_tree, stmts_tree, with_stmts}
 use Rattle.prog_tree.proofs.TreeLemmas.{fork_tree}
 use Rattle.prog_check.specs.Paths.{statement_count}
-use Rattle.prog_paths.specs.Kinds.{items_of}
+use Rattle.prog_paths.specs.Kinds.{option_items}
 use Rattle.repair_laws.specs.Promoted.{keep_of, with_keeps}
 use Rattle.si_repair.specs.Promoting.{is_marked, cell_read_by}
 use Rattle.si_repair.proofs.Behind.{count-first, keeps-more, count-fork, keeps-fork, count-loop}
@@ -83,7 +83,7 @@ keeps_in_block-loop-stmt-preserved t c =
     let item = c.stmt-item.result in
     let later = drop (c.loop-stmt.stmt-index + 1) items in
     let before = c.loop-stmt.stmts.items in
-    let keeps = items_of c.in_ok-keep.keep in
+    let keeps = option_items c.in_ok-keep.keep in
     let kept = c.in_ok-kept.kept in
     let parts = ap stmts_tree (drop_more items c.loop-stmt.stmt-index item c.loop-stmt-test.true ∙ ap (λ s. s ∷ later) (sym c.stmt-item.is)) in
     let size = ap statement_count parts in
