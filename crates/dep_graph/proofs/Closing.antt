@@ -114,7 +114,9 @@ entries-first reach edges j = j.entries
 
 pub entries-next : (old new edges : Grid) (k : ℕ) → old.size ≡ edges.size → k < edges.size → ((i j : ℕ) → i < edges.size → j < edges.size → entry old i j ≡ leads_through (entry edges) k i j) → JoinsThrough old new k → (i j : ℕ) → i < edges.size → j < edges.size → entry new i j ≡ leads_through (entry edges) (k + 1) i j
 unfolding leads_through
-entries-next old new edges k size inside before joins i j p q = joins.entries i j (omega arith) (omega arith) ∙ rw (before i j p q, before i k p inside, before k j inside q) (ap (λ n. leads_through (entry edges) n i j) next)
+entries-next old new edges k size inside before joins i j p q =
+    let joined : entry new i j ≡ (entry old i j || (entry old i k && entry old k j)) = joins.entries i j (omega arith) (omega arith) in
+    joined ∙ rw (before i j p q, before i k p inside, before k j inside q) (ap (λ n. leads_through (entry edges) n i j) next)
   where
     next : suc k ≡ k + 1
     next = omega arith

@@ -1,5 +1,5 @@
 -- The matrix, fact by fact.
-use Rattle.std.proofs.Common.{◌≡◌, ◌∙◌, ℕ, List, ◌∷◌, drop, length, ◌<◌, ◌+◌, refl, arith}
+use Rattle.std.proofs.Common.{◌≡◌, ◌∙◌, ℕ, List, ◌∷◌, drop, length, ◌<◌, ◌+◌, ◌||◌, ◌&&◌, refl, arith}
 use Rattle.std.proofs.lemmas.List.{drop_more}
 use Rattle.order_facts.specs.declared.steps.Node.TheVariants.{Mine}
 use Rattle.order_facts.specs.declared.steps.Fact.{Fact}
@@ -23,4 +23,5 @@ IsMatrixOf-joined facts old new at inside m j = record { size = j.size ∙ m.siz
         let in_row : i < old.size = omega (arith, j.size) in
         let in_column : k < old.size = omega (arith, j.size) in
         let between : at < old.size = omega (arith, m.size) in
-        rw (more, j.entries i k in_row in_column, m.entries i k in_row in_column, m.entries i at in_row between, m.entries at k between in_column) refl
+        let joined : entry new i k ≡ (entry old i k || (entry old i at && entry old at k)) = j.entries i k in_row in_column in
+        rw (more, joined, m.entries i k in_row in_column, m.entries i at in_row between, m.entries at k between in_column) refl

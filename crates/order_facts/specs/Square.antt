@@ -16,20 +16,23 @@ pub record Joins (s : Grid) (from to : ℕ) : Type 0 where
   pub to_inside : to < s.size
   pub joined : entry s from to ≡ true
 
--- a table of so many nodes that joins none of them
-pub record IsEmptySquare (s : Grid) (size : ℕ) : Type 0 where
-  pub size_is : s.size ≡ size
-  pub entries : (i j : ℕ) → i < size → j < size → entry s i j ≡ false
-
 -- a table of so many nodes that joins just those of which a test is true
 pub record IsSquareOf (s : Grid) (size : ℕ) (test : ℕ → ℕ → Bool) : Type 0 where
   pub size_is : s.size ≡ size
   pub entries : (i j : ℕ) → i < size → j < size → entry s i j ≡ test i j
 
+-- one that joins none of them
+abbrev pub IsEmptySquare : Grid → (size : ℕ) → Type 0
+IsEmptySquare s size = IsSquareOf s size (λ i j. false)
+
 -- the new table joins what the old one joins, and those of which a test is true
 pub record Enters (old new : Grid) (test : ℕ → ℕ → Bool) : Type 0 where
   pub size : new.size ≡ old.size
   pub entries : (i j : ℕ) → i < old.size → j < old.size → entry new i j ≡ (entry old i j || test i j)
+
+-- whatever is joined to `through` is joined to what that is joined to
+abbrev pub JoinsThrough : (old new : Grid) → (through : ℕ) → Type 0
+JoinsThrough old new through = Enters old new (λ i j. entry old i through && entry old through j)
 
 -- one entry is true, and the others are as they were
 pub record RaisesEntry (old new : Grid) (from to : ℕ) : Type 0 where
@@ -42,9 +45,3 @@ pub record JoinsRow (old new : Grid) (row through : ℕ) : Type 0 where
   pub size : new.size ≡ old.size
   pub here : (j : ℕ) → j < old.size → entry new row j ≡ (entry old row j || entry old through j)
   pub others : (i j : ℕ) → i < old.size → j < old.size → ¬ (i ≡ row) → entry new i j ≡ entry old i j
-
--- whatever is joined to `through` is joined to what that is joined to
-pub record JoinsThrough (old new : Grid) (through : ℕ) : Type 0 where
-  pub size : new.size ≡ old.size
-  pub entries : (i j : ℕ) → i < old.size → j < old.size
-      → entry new i j ≡ (entry old i j || (entry old i through && entry old through j))
