@@ -81,35 +81,23 @@ fn get(cursor: &mut Cursor<'_>, name: Name) -> Result<Stmt, ReadError>
 fn bound_value(cursor: &mut Cursor<'_>, name: Name) -> Result<Stmt, ReadError>
     ensures { ReadsPlain (bound_at name) result cursor.old cursor.new }
 {
-    let [first, rest @ ..] = cursor.tokens else {
-        let value = last_expr(cursor)?;
-        return Ok(Stmt::Bind { name, value });
-    };
-    match first {
-        Token::Sign(Sign::Get) => {
-            cursor.tokens = rest;
-            get(cursor, name)
-        }
-        Token::Sign(Sign::Need) => {
-            cursor.tokens = rest;
-            let Keyed { table, key } = last_key(cursor)?;
-            Ok(Stmt::Need { name, table, key })
-        }
-        Token::Sign(Sign::Count) => {
-            cursor.tokens = rest;
-            let Ranged { table, range } = last_range(cursor)?;
-            Ok(Stmt::Count { name, table, range })
-        }
-        Token::Sign(Sign::Sum) => {
-            cursor.tokens = rest;
-            let Ranged { table, range } = last_range(cursor)?;
-            Ok(Stmt::Sum { name, table, range })
-        }
-        _ => {
-            let value = last_expr(cursor)?;
-            Ok(Stmt::Bind { name, value })
-        }
+    if cursor.eat(Sign::Get) {
+        return get(cursor, name);
     }
+    if cursor.eat(Sign::Need) {
+        let Keyed { table, key } = last_key(cursor)?;
+        return Ok(Stmt::Need { name, table, key });
+    }
+    if cursor.eat(Sign::Count) {
+        let Ranged { table, range } = last_range(cursor)?;
+        return Ok(Stmt::Count { name, table, range });
+    }
+    if cursor.eat(Sign::Sum) {
+        let Ranged { table, range } = last_range(cursor)?;
+        return Ok(Stmt::Sum { name, table, range });
+    }
+    let value = last_expr(cursor)?;
+    Ok(Stmt::Bind { name, value })
 }
 
 // Behind the word `let`.
