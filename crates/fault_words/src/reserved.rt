@@ -1,22 +1,15 @@
 //! The words and names of the language.
 ghost use Rattle.std.specs.Prelude.{◌≡◌};
-ghost use Rattle.prog_text.specs.Lexing.{is_letter};
 ghost use Rattle.fault_words.specs.Reserved.{is_name};
 
-use prog_text::{is_reserved, reserved_words};
-
-fn begins_name(byte: u8) -> bool
-    ensures { result ≡ is_letter byte }
-{
-    byte.is_ascii_alphabetic() || byte == b'_'
-}
+use prog_text::{is_letter, is_reserved, reserved_words};
 
 /// Whether a token is a name.
 pub fn is_name(token: &str) -> bool
     ensures { result ≡ is_name token.now }
 {
     match token.as_bytes() {
-        [byte, ..] if begins_name(*byte) => !is_reserved(token.as_bytes()),
+        [byte, ..] if is_letter(*byte) => !is_reserved(token.as_bytes()),
         _ => false,
     }
 }

@@ -1,7 +1,10 @@
 //! Texts that are read, copied and printed.
 
 use example_sets::SMALL_BANK;
-use prog_text::{Beginning, TextFault, beginning_of, is_reserved, parse, print, reserved_words};
+use prog_text::{
+    Beginning, TextFault, beginning_of, is_letter, is_reserved, is_space, is_word_byte, parse,
+    print, reserved_words,
+};
 use prog_tree::Draft;
 use std::alloc::{AllocError, Global};
 use std::test::Fail;
@@ -60,6 +63,22 @@ fn words_are_reserved_and_begin_what_they_begin(rt: HostRuntime) {
         assert!(rt; beginning_of(word.as_bytes()) == beginning, "{word}");
     }
     assert!(rt; reserved_words().len() == 24);
+}
+
+#[test]
+fn bytes_begin_words_go_on_words_and_stand_between_them(rt: HostRuntime) {
+    for (byte, begins, goes_on, is_between) in [
+        (b'A', true, true, false),
+        (b'z', true, true, false),
+        (b'_', true, true, false),
+        (b'0', false, true, false),
+        (b'\r', false, false, true),
+        (b'-', false, false, false),
+    ] {
+        assert!(rt; is_letter(byte) == begins, "{byte}");
+        assert!(rt; is_word_byte(byte) == goes_on, "{byte}");
+        assert!(rt; is_space(byte) == is_between, "{byte}");
+    }
 }
 
 #[test]

@@ -4,7 +4,7 @@ ghost use Rattle.std.specs.List.{prefix_len, suffix_len};
 ghost use Rattle.text_places.specs.ByteKinds.{is_of};
 
 use crate::place::is_feed;
-use crate::reading::{is_blank, is_word_byte};
+use prog_text::{is_space, is_word_byte};
 
 /// Bytes that are counted together.
 #[derive(Clone, Copy, Debug, PartialEq, Eq)]
@@ -22,7 +22,7 @@ fn is_of(kind: ByteKind, byte: u8) -> bool
 {
     match kind {
         ByteKind::Word => is_word_byte(byte),
-        ByteKind::Blank => is_blank(byte),
+        ByteKind::Blank => is_space(byte),
         ByteKind::Inline => !is_feed(byte),
     }
 }

@@ -1,27 +1,14 @@
 //! The words, blanks and comments of a text that may have any fault: nothing is refused here.
 ghost use Rattle.std.specs.Prelude.{◌≡◌, ◌≤◌, length, IfOk};
 ghost use Rattle.std.specs.List.{prefix_len};
-ghost use Rattle.prog_text.specs.Lexing.{is_space, is_word_byte};
+ghost use Rattle.prog_text.specs.Lexing.{is_word_byte};
 ghost use Rattle.text_places.specs.Reading.{before_blanks, begins_word, behind_blanks, behind_word, first_word, is_in_comment, last_end, last_word, short_word, stands_free, without_comments};
 
 use crate::byte_kind::{ByteKind, first_count, last_count};
 use crate::limits::SHORT_WORD;
 use crate::place::{before, behind};
+use prog_text::is_word_byte;
 use std::alloc::{AllocError, Global};
-
-/// Whether a byte is a letter, a digit or `_`.
-pub fn is_word_byte(byte: u8) -> bool
-    ensures { result ≡ is_word_byte byte }
-{
-    byte.is_ascii_alphabetic() || byte == b'_' || byte.is_ascii_digit()
-}
-
-/// Whether a byte separates words and signs.
-pub fn is_blank(byte: u8) -> bool
-    ensures { result ≡ is_space byte }
-{
-    (byte == b' ' || byte == b'\t') || (byte == b'\n' || byte == b'\r')
-}
 
 fn is_in_comment(is_open: bool, byte: u8) -> bool
     ensures { result ≡ is_in_comment is_open byte }

@@ -5,9 +5,8 @@ ghost use Rattle.text_places.specs.Tokens.{begins_by, begins_token, first_token,
 
 use crate::byte_kind::{ByteKind, last_count};
 use crate::place::{before, behind};
-use crate::reading::{
-    before_blanks, behind_blanks, is_blank, is_word_byte, last_word, stands_free, word_len,
-};
+use crate::reading::{before_blanks, behind_blanks, last_word, stands_free, word_len};
+use prog_text::{is_space, is_word_byte};
 
 /// The bytes as text; empty where they are none.
 pub fn as_text(bytes: &[u8]) -> &str
@@ -80,7 +79,7 @@ fn begins_by(is_free: bool, bytes: &[u8]) -> bool
 {
     match bytes {
         [] => false,
-        [byte, ..] => !is_blank(*byte) && (!is_word_byte(*byte) || is_free),
+        [byte, ..] => !is_space(*byte) && (!is_word_byte(*byte) || is_free),
     }
 }
 

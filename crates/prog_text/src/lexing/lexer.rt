@@ -2,8 +2,9 @@
 
 ghost use Rattle.std.specs.Prelude.{◌≡◌, ℕ, ◌+◌, ◌<◌, ◌≤◌, length, drop, slice_index, IfOk, true};
 ghost use Rattle.std.specs.List.{prefix_len};
-ghost use Rattle.prog_text.specs.Lexing.{is_letter, is_digit, is_word_byte, is_space, is_comment_byte, value_within, Gives, piece_at, word_at, number_at, sign_at, tokens_of};
+ghost use Rattle.prog_text.specs.Lexing.{is_letter, is_digit, is_word_byte, is_comment_byte, value_within, Gives, piece_at, word_at, number_at, sign_at, tokens_of};
 
+use crate::lexing::letters::{is_digit, is_letter, is_space, is_word_byte};
 use crate::lexing::lex_error::{Flaw, LexError};
 use crate::lexing::placed_tokens::PlacedTokens;
 use crate::lexing::token::{Magnitude, Sign, Token};
@@ -16,30 +17,6 @@ use std::alloc::Global;
 struct Piece<'a> {
     token: Option<Token<'a>>,
     rest: &'a [u8],
-}
-
-fn is_letter(byte: u8) -> bool
-    ensures { result ≡ is_letter byte }
-{
-    byte.is_ascii_alphabetic() || byte == b'_'
-}
-
-fn is_digit(byte: u8) -> bool
-    ensures { result ≡ is_digit byte }
-{
-    byte.is_ascii_digit()
-}
-
-fn is_word_byte(byte: u8) -> bool
-    ensures { result ≡ is_word_byte byte }
-{
-    is_letter(byte) || is_digit(byte)
-}
-
-fn is_space(byte: u8) -> bool
-    ensures { result ≡ is_space byte }
-{
-    matches!(byte, b' ' | b'\t' | b'\n' | b'\r')
 }
 
 fn is_comment_byte(byte: u8) -> bool

@@ -1,5 +1,6 @@
 //! From bytes to tokens.
 
+pub mod letters;
 pub mod lex_error;
 pub mod lexer;
 pub mod placed_tokens;
