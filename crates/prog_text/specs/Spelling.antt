@@ -1,8 +1,7 @@
 -- How each token is spelled.
-use Rattle.std.specs.Prelude.{ℕ, List, [], ◌∷◌, map, Option, Some, None, bytes_eq, find, if◌then◌else◌, codes}
+use Rattle.std.specs.Prelude.{ℕ, List, [], ◌∷◌, map, Option, bytes_eq, find, codes}
 use Rattle.std.specs.Fmt.{decimal}
 use Rattle.prog_text.specs.declared.lexing.token.Token.{Token}
-use Rattle.prog_text.specs.declared.lexing.token.Sign.{Sign}
 use Rattle.prog_text.specs.declared.lexing.token.Sign.TheVariants as sign
 use Rattle.prog_text.specs.declared.lexing.token.Token.TheVariants as t
 
@@ -72,8 +71,3 @@ signs =
     t.Sign sign.Dots ∷ t.Sign sign.LessEqual ∷ t.Sign sign.GreaterEqual ∷ t.Sign sign.EqualEqual ∷ t.Sign sign.NotEqual ∷
     t.Sign sign.Open ∷ t.Sign sign.Close ∷ t.Sign sign.OpenKey ∷ t.Sign sign.CloseKey ∷ t.Sign sign.OpenBlock ∷ t.Sign sign.CloseBlock ∷ t.Sign sign.Comma ∷ t.Sign sign.Semicolon ∷ t.Sign sign.Equals ∷
     t.Sign sign.Plus ∷ t.Sign sign.Minus ∷ t.Sign sign.Times ∷ t.Sign sign.Less ∷ t.Sign sign.Greater ∷ []
-
--- the sign that a table has for a word, by the first entry of it
-abbrev pub sign_in : List (List ℕ × Sign) → List ℕ → Option Sign
-sign_in [] word = None
-sign_in (entry ∷ table) word = if bytes_eq word entry.0 then Some entry.1 else sign_in table word

@@ -2,8 +2,9 @@
 
 ghost use Rattle.std.specs.Prelude.{◌≡◌, true, bytes_eq, map};
 ghost use Rattle.std.specs.List.{list_all};
+ghost use Rattle.std.specs.Map.{lookup};
 ghost use Rattle.prog_text.specs.Lexing.{is_word_byte, word_token};
-ghost use Rattle.prog_text.specs.Spelling.{reserved_words, sign_in, spelling};
+ghost use Rattle.prog_text.specs.Spelling.{reserved_words, spelling};
 ghost use Rattle.prog_text.specs.Words.{beginning_of, begun_by, is_reserved};
 ghost use Rattle.prog_text.specs.declared.lexing.token.Token.TheVariants as t;
 ghost use Rattle.prog_text.specs.declared.lexing.words.TheConstants.{RESERVED};
@@ -63,7 +64,8 @@ fn is_same(word: &[u8], other: &[u8]) -> bool
 
 // The sign that a table has for a word, by its first entry.
 fn lookup(mut table: &[(&str, Sign)], bytes: &[u8]) -> Option<Sign>
-    ensures { result ≡ sign_in (map (λ entry. (entry.0.now, entry.1)) table.entry.now) bytes.now }
+    ensures { result
+        ≡ lookup (bytes_eq bytes.now) (map (λ entry. (entry.0.now, entry.1)) table.entry.now) }
 {
     while let [entry, rest @ ..] = table {
         if is_same(bytes, entry.0.as_bytes()) {
