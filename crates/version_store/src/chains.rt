@@ -63,10 +63,7 @@ impl Chains {
     pub fn get(&self, start: u64, cell: &Cell) -> Option<i64>
         ensures { AllRise self.now → result ≡ value_at start (chain_at self.now cell.now) }
     {
-        match self.chains.get(cell) {
-            Some(chain) => chain.value_at(start),
-            None => None,
-        }
+        self.chains.get(cell)?.value_at(start)
     }
 
     /// The greatest number of a commit that changed or kept a cell, or 0.

@@ -127,8 +127,5 @@ fn begun_by(sign: Sign) -> Option<Beginning>
 pub fn beginning_of(word: &[u8]) -> Option<Beginning>
     ensures { result ≡ beginning_of word.now }
 {
-    match lookup(&RESERVED, word) {
-        Some(sign) => begun_by(sign),
-        None => None,
-    }
+    begun_by(lookup(&RESERVED, word)?)
 }
