@@ -1,5 +1,5 @@
 //! Checked sets.
-ghost use Rattle.std.specs.Prelude.{◌≡◌, ◌<◌, None, map, length, IfSome, IfOk, OnOk};
+ghost use Rattle.std.specs.Prelude.{◌≡◌, ◌<◌, None, map, length, unwrap_or, IfSome, IfOk, OnOk};
 ghost use Rattle.prog_tree.specs.Numbering.{number_of};
 ghost use Rattle.prog_tree.specs.Tree.{draft_tree};
 ghost use Rattle.prog_check.specs.Faults.{table_names, program_names, first_fault};
@@ -67,7 +67,8 @@ impl ProgramSet {
     /// The number of the table of a name, in constant time.
     pub fn table_number(&self, name: &str) -> Option<usize>
         ensures place { result ≡ place_among (table_names (draft_tree self.now)) name.now }
-        ensures number { IfSome result (λ n. n ≡ number_of self.now.tables.items name.now) }
+        ensures number { unwrap_or result (length self.now.tables.items)
+            ≡ number_of self.now.tables.items name.now }
         ensures within { IfSome result (λ n. n < length self.now.tables.items) }
     {
         self.tables.number(name)

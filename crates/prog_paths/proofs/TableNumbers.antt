@@ -1,11 +1,9 @@
 -- A table by its name's place.
-use Rattle.std.proofs.Common.{◌≡◌, ℕ, ◌+◌, ◌<◌, List, [], ◌∷◌, Bool, true, false, map, length, get_or, slice_get, refl, ap, sym, ◌∙◌, arith}
-use Rattle.std.specs.Prelude.{Option, Some, None, if◌then◌else◌}
+use Rattle.std.proofs.Common.{◌≡◌, ℕ, ◌<◌, List, map, length, get_or, slice_get, refl, ap, sym, ◌∙◌}
+use Rattle.std.specs.Prelude.{Option, Some, None}
 use Rattle.std.specs.Option.{option_and_then}
-use Rattle.std.specs.Cmp.Lexicographic.{nat_list_eq_equiv}
 use Rattle.std.proofs.lemmas.Option.{slice_get_read}
 use Rattle.prog_tree.specs.declared.table.TableDecl.{TableDecl}
-use Rattle.prog_tree.specs.Numbering.{number_of}
 use Rattle.prog_tree.specs.Syntax.{Name}
 use Rattle.prog_tree.specs.Value.{same_name}
 use Rattle.prog_check.specs.Names.{place_among}
@@ -24,15 +22,3 @@ grows_at tables x n d e inside is =
 
 pub none_declared : (tables : List TableDecl) (x : Name) → None ≡ place_among (map (λ t. t.name) tables) x → None ≡ declaration tables x
 none_declared tables x e = placed tables x None e
-
-pub number_past : (tables : List TableDecl) (x : Name) → declaration tables x ≡ None → length tables ≡ number_of tables x
-number_past [] x h = refl
-number_past (d ∷ tables) x h = by (same_name x d.name) refl h (number_past tables x)
-  where
-    by : (b : Bool) → same_name x d.name ≡ b → (if b then Some d else declaration tables x) ≡ None → (declaration tables x ≡ None → length tables ≡ number_of tables x) → length (d ∷ tables) ≡ (if same_name d.name x then 0 else number_of tables x + 1)
-    by true is g later = absurd (cc)
-    by false is g later =
-        let other = nat_list_eq_equiv.symm d.name x ∙ is in
-        let k = later g in
-        let e : length (d ∷ tables) ≡ number_of tables x + 1 = omega (arith, k) in
-        e ∙ ap (λ b. if b then 0 else number_of tables x + 1) (sym other)

@@ -1,11 +1,8 @@
 //! The statements of the store, with all evaluated that comes before their looks.
 ghost use Rattle.std.specs.Prelude.{◌≡◌, true, Some, option_map};
-ghost use Rattle.std.specs.List.{position};
-ghost use Rattle.prog_tree.specs.declared.table.TableDecl.{TableDecl};
 ghost use Rattle.prog_tree.specs.Numbering.{number_of};
 ghost use Rattle.prog_tree.specs.Evaluation.{cell_of};
 ghost use Rattle.prog_tree.specs.Tree.{key_tree, range_tree, stmt_tree};
-ghost use Rattle.prog_tree.specs.Value.{same_name};
 ghost use Rattle.prog_run.specs.Cursor.{is_store_stmt};
 ghost use Rattle.prog_run.specs.Looks.{question_of};
 ghost use Rattle.prog_run.specs.Task.{AskedTree, TaskTree, asked_tree, use_tree, region_use_tree};
@@ -16,7 +13,7 @@ ghost use Rattle.prog_run.specs.View.{asked_region};
 
 use crate::next::Next;
 use prog_check::ProgramSet;
-use prog_tree::{Block, Cell, Env, Expr, Key, Listing, Name, Range, Region, Stmt, TableDecl};
+use prog_tree::{Block, Cell, Env, Expr, Key, Listing, Name, Range, Region, Stmt};
 
 /// What a statement does with what its cell holds.
 #[derive(Clone, Copy, Debug)]
@@ -93,35 +90,12 @@ impl Asked<'_> {
     }
 }
 
-// How many tables are gone through one by one. Of more a name's hash finds the one sooner.
-const FEW_TABLES: usize = 8;
-
-// The place of the first table of a name.
-fn place_among(tables: &[TableDecl], name: &Name) -> Option<usize>
-    ensures { result ≡ position (λ (table : TableDecl). same_name table.name name.now) tables.now }
-{
-    tables.iter().position(|table| table.name.is_same(name))
-}
-
-// Its number, or how many tables there are where it is none.
-fn number_among(tables: &[TableDecl], name: &Name) -> usize
-    ensures { result ≡ number_of tables.now name.now }
-{
-    place_among(tables, name).unwrap_or(tables.len())
-}
-
-// The same of a set's tables.
+// The number of the table of a name, or how many tables there are where it is none's.
 fn table_number(set: &ProgramSet, name: &Name) -> usize
     ensures { result ≡ number_of set.now.tables.items name.now }
 {
-    let tables = &set.draft().tables;
-    if tables.len() <= FEW_TABLES {
-        return number_among(tables, name);
-    }
-    match set.table_number(name.as_str()) {
-        Some(number) => number,
-        None => tables.len(),
-    }
+    set.table_number(name.as_str())
+        .unwrap_or(set.draft().tables.len())
 }
 
 fn cell_at(set: &ProgramSet, table: &Name, key: &Key, env: &Env) -> Option<Cell>

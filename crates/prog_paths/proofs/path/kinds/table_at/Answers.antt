@@ -1,8 +1,9 @@
 use Rattle.std.proofs.Common.{◌<◌, ◌∙◌, ap, sym, subst, length, map, get_or}
-use Rattle.std.specs.Prelude.{IfSome}
+use Rattle.std.specs.Prelude.{IfSome, unwrap_or}
+use Rattle.prog_tree.specs.Numbering.{number_of}
 use Rattle.prog_check.specs.Names.{place_among}
 use Rattle.prog_check.specs.Tables.{grows}
-use Rattle.prog_paths.proofs.TableNumbers.{grows_at, none_declared, number_past}
+use Rattle.prog_paths.proofs.TableNumbers.{grows_at, none_declared}
 use Rattle.prog_paths.proofs.path.kinds.table_at.Goals as goal
 
 pub returns-in-Some-clause-grow : goal.returns-in-Some-clause-grow
@@ -20,9 +21,10 @@ returns-in-Some-clause-grow c =
 pub returns-in-None-clause-number : goal.returns-in-None-clause-number
 returns-in-None-clause-number c =
     let tables = c.args.set.now.tables.items in
-    let x = c.args.name.now in
-    let none = none_declared tables x (sym c.in-None.is ∙ c.table_number.ensures.place ∙ ap (λ y. place_among (map (λ t. t.name) tables) y) c.as_str.ensures) in
-    ap length (c.as_slice-tables.ensures.value ∙ ap (λ s. s.tables.items) c.draft.ensures.same) ∙ number_past tables x (sym none)
+    ap length (c.as_slice-tables.ensures.value ∙ ap (λ s. s.tables.items) c.draft.ensures.same)
+    ∙ ap (λ place. unwrap_or place (length tables)) (sym c.in-None.is)
+    ∙ c.table_number.ensures.number
+    ∙ ap (number_of tables) c.as_str.ensures
 
 pub returns-in-None-clause-grow : goal.returns-in-None-clause-grow
 returns-in-None-clause-grow c =
