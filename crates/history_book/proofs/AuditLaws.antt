@@ -1,16 +1,13 @@
 -- Rows that are taken up behind others.
-use Rattle.std.proofs.Common.{◌≡◌, ℕ, ◌+◌, ◌<◌, ◌≤◌, List, [], ◌∷◌, ◌++◌, length, map, take, refl, ap, sym, ◌∙◌, subst, append_assoc, append-nil, arith}
+use Rattle.std.proofs.Common.{◌≡◌, ◌+◌, ◌<◌, ◌≤◌, List, [], ◌∷◌, ◌++◌, length, map, take, refl, ap, sym, ◌∙◌, subst, append_assoc, append-nil, arith}
 use Rattle.std.specs.Prelude.{Some, slice_get}
 use Rattle.std.specs.List.{range_with_len}
-use Rattle.std.specs.Option.{option_map}
 use Rattle.std.proofs.lemmas.List.{length-append}
 use Rattle.std.proofs.lemmas.List.FromFn.{map-range_with_len_more, length-map-range_with_len}
-use Rattle.std.proofs.lemmas.Option.{slice_get-map}
 use Rattle.prog_tree.specs.declared.program.Draft.{Draft}
-use Rattle.prog_tree.specs.declared.program.Program.{Program}
 use Rattle.prog_tree.specs.Syntax.{DraftTree}
 use Rattle.prog_tree.specs.Table.{TableState}
-use Rattle.prog_tree.specs.Tree.{draft_tree, program_tree}
+use Rattle.prog_tree.specs.Tree.{draft_tree}
 use Rattle.history_book.specs.Audit.{audited, taken_up, IsRightRow, IsRowFault, AreRightBehind, IsAuditFault, IsRowRefusal}
 use Rattle.history_book.specs.History.{Instance}
 use Rattle.history_book.specs.View.{BookView, instance_of, history_of, most_endings}
@@ -18,10 +15,6 @@ use Rattle.history_book.specs.declared.audit.AuditFault.{AuditFault}
 use Rattle.history_book.specs.declared.audit.AuditFault.TheVariants as audit
 use Rattle.history_book.specs.declared.instances.row.Ending.TheVariants.{Committed}
 use Rattle.history_book.specs.declared.instances.row.HistoryRow.{HistoryRow}
-
--- the program of a number, as a tree
-pub program_at : (items : List Program) (n : ℕ) (p : Program) → slice_get items n ≡ Some p → slice_get (map program_tree items) n ≡ Some (program_tree p)
-program_at items n p found = slice_get-map program_tree items n ∙ ap (option_map program_tree) found
 
 -- ---- one row more
 

@@ -31,7 +31,8 @@ came_again v row again run is came = subst (CameTo run) (ap (λ r. done_in v (in
 
 -- ---- whether it does the same again
 
-never : {P : Type 0} → (P → ⊥) → IsTrue false ↔ P
+-- what does not hold is told by `false`
+pub never : {P : Type 0} → (P → ⊥) → IsTrue false ↔ P
 never {P = P} none = (λ (h : IsTrue false). absurd (true≢false (sym h)), λ (p : P). absurd (none p))
 
 pub not_ready_again : (v : BookView) (row : HistoryRow) (run : RunView) (b : Bool) → CameTo run (done_again v row) → IsTrue b ↔ (run.end ≡ Some Ready) → b ≡ false → IsTrue false ↔ IsSameAgain v row

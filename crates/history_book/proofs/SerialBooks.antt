@@ -28,7 +28,7 @@ use Rattle.history_book.proofs.StateLaws.{nth_instance-back}
 use Rattle.history_book.specs.Orders.{is_one_of}
 use Rattle.std.proofs.lemmas.Bool.Decides.{leb_tells}
 use Rattle.history_book.proofs.OnceLaws.{whole, not_twice, next_within}
-use Rattle.history_book.proofs.RepeatLaws.{again_is}
+use Rattle.history_book.proofs.RepeatLaws.{again_is, never}
 
 -- ---- the newest state
 
@@ -106,9 +106,6 @@ no_run v number rest m none runs =
 
 abbrev FitsIn : BookView → List ℕ → Type 0
 FitsIn v = Fits (draft_tree v.set) v.opening (history_of v.rows)
-
-never : {P : Type 0} → (P → ⊥) → IsTrue false ↔ P
-never {P = P} none = (λ (h : IsTrue false). absurd (true≢false (sym h)), λ (p : P). absurd (none p))
 
 -- an order that has not each number once
 pub not_once : (v : BookView) (order : List ℕ) (once : Bool) → once ≡ is_each_once (length v.rows) order → once ≡ false → IsTrue false ↔ FitsIn v order

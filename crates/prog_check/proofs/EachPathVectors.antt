@@ -1,20 +1,17 @@
 -- Worked examples of committing paths with an `each`, computed from the definition.
 use Rattle.std.proofs.Common.{◌≡◌, ℕ, List, [], ◌∷◌, refl, true, false}
 use Rattle.std.specs.Prelude.{ℤ, Bool, pos, codes, None}
-use Rattle.prog_tree.specs.Syntax.{Name, ExprTree, Named, Plus, TestTree, One, RangeTree, OneRange, ListingTree, BlockTree, BlockEnd, Then, Branch, Each}
+use Rattle.prog_tree.specs.Syntax.{Name, ExprTree, Named, Plus, One, RangeTree, OneRange, ListingTree, BlockTree, BlockEnd, Then, Branch, Each}
 use Rattle.prog_tree.specs.Syntax as s
 use Rattle.prog_check.specs.declared.path.Kind.{Kind}
 use Rattle.prog_check.specs.declared.path.Kind.TheVariants.{Reads, Writes}
 use Rattle.prog_check.specs.declared.path.Term.{Term}
 use Rattle.prog_check.specs.declared.path.Term.TheVariants.{Literal, Unknown}
 use Rattle.prog_check.specs.declared.path.Access.{Access}
-use Rattle.prog_check.specs.declared.path.Path.{Path}
 use Rattle.prog_check.specs.Paths.{paths_of}
 use Rattle.prog_tree.specs.declared.table.Arity.TheVariants as arity
+use Rattle.prog_check.proofs.PathVectors.{number, less, path}
 use Rattle.prog_check.proofs.Vectors.{table_of, program_of}
-
-abbrev number : ℕ → ExprTree
-number n = s.Literal (pos n)
 
 abbrev named : List ℕ → ExprTree
 named x = Named x
@@ -34,9 +31,6 @@ abbrev listed : Bool → ℕ → ℕ → Access
 listed sure table place =
     record { kind = Reads; table = table; first = record { low = Literal (pos 1); high = Literal (pos 3) }; second = None; place = place; sure = sure }
 
-abbrev path : ℕ → List Bool → List Access → Path
-path program choices accesses = record { program = program; choices = choices; accesses = accesses }
-
 -- ---- the pay-each set: each k, x in t[1..3] { put t[k] = x + v; }
 
 pub pays :
@@ -51,9 +45,6 @@ pays = refl
 -- ---- a body with a branch, an `abort;` and an `each`, and an `each` in a branch
 -- if a < 0 { each k, v in t[1..3] { if v < 0 { put t[k] = 1; abort; } each q, w in t[1..3] { put t[q] = 2; } } }
 -- put t[a + a] = 3;
-
-abbrev less : ExprTree → ExprTree → TestTree
-less left right = (record { negated = false; left = left; relation = s.Less; right = right } ∷ []) ∷ []
 
 abbrev put_at : ExprTree → ℕ → BlockTree → BlockTree
 put_at key value rest = Then (s.Put (codes "t") (One key) (number value)) rest

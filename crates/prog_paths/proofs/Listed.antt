@@ -1,6 +1,5 @@
 -- The list of paths, program by program.
-use Rattle.std.proofs.Common.{◌≡◌, ℕ, zero, suc, ◌+◌, ◌<◌, ◌≤◌, List, [], ◌∷◌, ◌++◌, map, length, get_or, slice_get, refl, ap, sym, ◌∙◌}
-use Rattle.std.specs.Prelude.{Some}
+use Rattle.std.proofs.Common.{◌≡◌, ℕ, ◌+◌, ◌<◌, ◌≤◌, List, [], ◌∷◌, ◌++◌, map, length, get_or, refl, ap, sym, ◌∙◌}
 use Rattle.std.proofs.lemmas.Option.{slice_get_read}
 use Rattle.std.proofs.lemmas.List.{append_assoc}
 use Rattle.prog_tree.specs.declared.program.Program.{Program}
@@ -8,6 +7,7 @@ use Rattle.prog_tree.specs.declared.program.Draft.{Draft}
 use Rattle.prog_tree.specs.declared.table.TableDecl.{TableDecl}
 use Rattle.prog_tree.specs.Syntax.{Name}
 use Rattle.prog_tree.specs.Tree.{draft_tree, program_tree}
+use Rattle.prog_tree.proofs.Elements.{mapped_at}
 use Rattle.prog_check.specs.declared.path.Path.{Path}
 use Rattle.prog_check.specs.Paths.{Route, statement_count, path_of, program_paths, paths_from}
 use Rattle.prog_check.specs.Sound.{IsSound}
@@ -18,14 +18,9 @@ pub listed : (tables : List TableDecl) (params : List Name) (n : ℕ) (rs : List
 listed tables params n [] = refl
 listed tables params n (r ∷ rs) = λ i. path_of tables n params r ∷ listed tables params n rs i
 
-mapped : (ps : List Program) (n : ℕ) (p : Program) → slice_get ps n ≡ Some p → slice_get (map program_tree ps) n ≡ Some (program_tree p)
-mapped [] n p e = absurd (cc)
-mapped (q ∷ ps) zero p e = cc
-mapped (q ∷ ps) (suc n) p e = mapped ps n p e
-
 -- a program of a sound draft has at most 256 statements
 pub few_of : (d : Draft) (n : ℕ) (p : Program) → IsSound (draft_tree d) → n < length d.programs.items → p ≡ get_or d.programs.items n p → statement_count (program_tree p).body ≤ 256
-few_of d n p sound inside is = (sound.programs n (program_tree p) (mapped d.programs.items n p (slice_get_read d.programs.items (length d.programs.items) n p refl inside is))).few_statements
+few_of d n p sound inside is = (sound.programs n (program_tree p) (mapped_at program_tree d.programs.items n p (slice_get_read d.programs.items (length d.programs.items) n p refl inside is))).few_statements
 
 -- one more program
 pub more_paths : (tables : List TableDecl) (n : ℕ) (p : Program) (ps later : List Program) (out now : List Path) → ps ≡ p ∷ later → now ≡ out ++ program_paths tables n (program_tree p) →

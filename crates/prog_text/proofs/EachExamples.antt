@@ -11,12 +11,12 @@ use Rattle.prog_text.specs.declared.lexing.token.Sign.TheVariants as sign
 use Rattle.prog_text.specs.declared.lexing.token.Token.TheVariants as t
 use Rattle.prog_text.specs.Answer.{Accepts, Refuses}
 use Rattle.prog_text.specs.Canonical.{canonical}
-use Rattle.prog_text.specs.Grammar.{IsFactor, IsExpr, IsStatements}
+use Rattle.prog_text.specs.Grammar.{IsStatements}
 use Rattle.prog_text.specs.Grammar as g
 use Rattle.prog_text.specs.Lexing.{kinds, tokens_from, piece_at, word_at, number_at, sign_at}
 use Rattle.prog_text.specs.Limits.{too_deep}
 use Rattle.prog_text.specs.Reading.{many_from, separated_at, factor_at, product_from, product_at, sum_from, sum_at, expr_within, expr_at, key_from, key_at, high_at, range_from, range_at, last_expr_at, assigned_at, put_at, reply_at, statement_at, block_at, listing_at, behind_turns, each_at, more_at, body_within, body_at, table_at, arity_at, params_at, program_at, set_at}
-use Rattle.prog_text.proofs.Examples.{cut_of, has_tokens}
+use Rattle.prog_text.proofs.Examples.{cut_of, has_tokens, lone}
 use Rattle.prog_text.proofs.Refusals.{set_found, set_misfit, set_unfinished}
 
 abbrev k : Name
@@ -32,10 +32,6 @@ one_to_three = record { key = k; value = v; table = codes "t"; range = OneRange 
 
 abbrev head_tokens : List Token
 head_tokens = t.Sign sign.Each ∷ t.Name k ∷ t.Sign sign.Comma ∷ t.Name v ∷ t.Sign sign.In ∷ t.Name (codes "t") ∷ t.Sign sign.OpenKey ∷ t.Number 1 ∷ t.Sign sign.Dots ∷ t.Number 3 ∷ t.Sign sign.CloseKey ∷ []
-
--- an expression of one factor
-lone : (ts : List Token) (e : ExprTree) → IsFactor ts e → IsExpr ts e
-lone ts e d = g.product ts e (g.factor ts e d)
 
 -- the first name is the key's, and the second the value's
 each_spelled : IsStatements (head_tokens ++ t.Sign sign.OpenBlock ∷ t.Sign sign.CloseBlock ∷ []) (Each one_to_three BlockEnd BlockEnd)

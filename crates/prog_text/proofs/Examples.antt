@@ -47,7 +47,7 @@ abbrev program_tokens : List Token
 program_tokens = t.Sign sign.Program ∷ t.Name (codes "P") ∷ t.Sign sign.Open ∷ t.Name a ∷ t.Sign sign.Close ∷ block_tokens
 
 -- an expression of one factor
-lone : (ts : List Token) (e : ExprTree) → IsFactor ts e → IsExpr ts e
+pub lone : (ts : List Token) (e : ExprTree) → IsFactor ts e → IsExpr ts e
 lone ts e d = g.product ts e (g.factor ts e d)
 
 spelled : IsSet (table_tokens ++ program_tokens) draft

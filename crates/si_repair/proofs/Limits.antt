@@ -3,7 +3,7 @@ use Rattle.std.proofs.Common.{◌≡◌, ℕ, suc, ◌+◌, ◌<◌, ◌≤◌, 
 use Rattle.std.specs.Prelude.{All, IfSome, Option, Some, None, slice_get}
 use Rattle.std.specs.List.{list_any}
 use Rattle.std.proofs.lemmas.Bool.{le-ltb, lt-leb}
-use Rattle.std.proofs.lemmas.List.{length-append, length-map}
+use Rattle.std.proofs.lemmas.List.{length-map, length_push}
 use Rattle.std.proofs.lemmas.List.Folds.{list_any_none}
 use Rattle.prog_tree.specs.declared.table.Arity.{Arity}
 use Rattle.prog_tree.specs.declared.table.TableDecl.{TableDecl}
@@ -106,13 +106,10 @@ pub record IsWithinLimits (draft : DraftTree) : Type 0 where
   pub programs : length draft.programs ≤ 16
   pub each : AreSmallPrograms draft.tables draft.programs
 
-one-longer : (xs : List Name) (x : Name) → length (xs ++ x ∷ []) ≡ suc (length xs)
-one-longer xs x = length-append xs (x ∷ []) ∙ omega arith
-
 tables-pass : (earlier names : List Name) → length earlier + length names ≤ 64 → IsNotOfSize (tables_fault earlier names)
 tables-pass earlier [] few = tt
 tables-pass earlier (x ∷ xs) few =
-    let longer = one-longer earlier x in
+    let longer = length_push earlier x in
     else_kept IsOther (first_broken (table_rules earlier x)) (tables_fault (earlier ++ x ∷ []) xs)
     (first_kept IsOther (table_rules earlier x) (inl (lt-leb 64 (length earlier) (omega (arith, few))), (inr (λ h. h), tt)))
     (tables-pass (earlier ++ x ∷ []) xs (omega (arith, few, longer)))
@@ -132,7 +129,7 @@ module _ (tables : List TableDecl) where
   programs-pass : (earlier : List Name) (ps : List ProgramTree) → length earlier + length ps ≤ 16 → AreSmallPrograms tables ps → IsNotOfSize (programs_fault tables earlier ps)
   programs-pass earlier [] few small = tt
   programs-pass earlier (p ∷ ps) few small =
-      let longer = one-longer earlier p.name in
+      let longer = length_push earlier p.name in
       else_kept IsOther (program_fault tables earlier p) (programs_fault tables (earlier ++ p.name ∷ []) ps)
       (program-passes earlier p (omega (arith, few)) small.0)
       (programs-pass (earlier ++ p.name ∷ []) ps (omega (arith, few, longer)) small.1)
