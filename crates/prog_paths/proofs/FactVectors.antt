@@ -9,8 +9,8 @@ use Rattle.order_facts.specs.Chain.{IsChain, RunsBetween}
 use Rattle.prog_check.specs.declared.path.Kind.TheVariants.{Reads, Lacks, Writes, Adds}
 use Rattle.prog_check.specs.declared.path.Term.TheVariants.{Param, Literal, Unknown}
 use Rattle.prog_check.specs.declared.path.Access.{Access}
+use Rattle.prog_check.proofs.PathVectors.{at_one, at_two}
 use Rattle.prog_paths.specs.Facts.{question_facts}
-use Rattle.prog_paths.proofs.GraphVectors.{at_one, at_two}
 
 abbrev fact : Node → Node → Fact
 fact lo hi = record { lo = lo; hi = hi }

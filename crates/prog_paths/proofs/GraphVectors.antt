@@ -1,5 +1,5 @@
 -- Worked examples of meeting, of edges and of dangerous structures, told by hand.
-use Rattle.std.specs.Prelude.{◌≡◌, ℕ, pos, Bool, true, false, List, [], ◌∷◌, Some, None, slice_get}
+use Rattle.std.specs.Prelude.{◌≡◌, ℕ, pos, true, false, List, [], ◌∷◌, Some, slice_get}
 use Rattle.std.specs.List.{AllByRecursion}
 use Rattle.std.proofs.Common.{refl, sym, subst, arith, inl, inr, suc, zero}
 use Rattle.std.proofs.lemmas.Int.{ints}
@@ -7,26 +7,14 @@ use lib.Signed.{≤ℤ_refl}
 use Rattle.prog_tree.specs.declared.cell.Cell.{Cell}
 use Rattle.prog_check.specs.declared.path.Kind.{Kind}
 use Rattle.prog_check.specs.declared.path.Kind.TheVariants.{Reads, Writes}
-use Rattle.prog_check.specs.declared.path.Term.{Term}
 use Rattle.prog_check.specs.declared.path.Term.TheVariants.{Param, Unknown}
 use Rattle.prog_check.specs.declared.path.Access.{Access}
 use Rattle.prog_check.specs.declared.path.Path.{Path}
+use Rattle.prog_check.proofs.PathVectors.{at_one, path}
 use Rattle.prog_paths.specs.Meeting.{Assignment, IsOfI64, MeetsUnder, MayTouch, MayCover, number_under}
 use Rattle.prog_paths.specs.StaticGraph.{IsAccessOf, QuestionNumbers, HasQuestion, StaticEdge, IsCovered, IsVulnerable, here, onward, IsDangerous}
 
 -- ---- in short
-
--- an access of a cell in a table of one column, and in one of two
-abbrev pub at_one : Kind → ℕ → Term → ℕ → Access
-at_one kind table term place =
-    record { kind = kind; table = table; first = record { low = term; high = term }; second = None; place = place; sure = true }
-
-abbrev pub at_two : Kind → ℕ → Term → Term → ℕ → Access
-at_two kind table first second place =
-    record { kind = kind; table = table; first = record { low = first; high = first }; second = Some (record { low = second; high = second }); place = place; sure = true }
-
-abbrev pub path : ℕ → List Bool → List Access → Path
-path program choices accesses = record { program = program; choices = choices; accesses = accesses }
 
 -- each parameter and each unknown is this number
 abbrev pub all_of : ℕ → Assignment

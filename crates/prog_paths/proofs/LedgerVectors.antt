@@ -10,9 +10,10 @@ use Rattle.prog_check.specs.declared.path.Kind.TheVariants.{Reads, Sees, Lacks, 
 use Rattle.prog_check.specs.declared.path.Term.TheVariants.{Param, Literal}
 use Rattle.prog_check.specs.declared.path.Access.{Access}
 use Rattle.prog_check.specs.declared.path.Path.{Path}
+use Rattle.prog_check.proofs.PathVectors.{at_one, at_two, path}
 use Rattle.prog_paths.specs.Meeting.{MeetsUnder, CanMeet, MayTouch}
 use Rattle.prog_paths.specs.StaticGraph.{IsAccessOf, QuestionNumbers, AsksReadWrite, AsksWriteRead, AsksWriteWrite, HasQuestion, StaticEdge, IsCovered, IsExposed, IsVulnerable, Leads, here, onward, IsDangerous}
-use Rattle.prog_paths.proofs.GraphVectors.{at_one, at_two, path, all_of, zero_cell, zeros_of_i64, of_node, has_question, meet_at_zero, CoversNothing, CoversIn, reads_cover_nothing}
+use Rattle.prog_paths.proofs.GraphVectors.{all_of, zero_cell, zeros_of_i64, of_node, has_question, meet_at_zero, CoversNothing, CoversIn, reads_cover_nothing}
 
 -- ---- the sets
 
