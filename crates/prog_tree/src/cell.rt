@@ -1,8 +1,7 @@
 //! Cells, and regions of them.
 
 ghost use Rattle.std.specs.Prelude.{◌≡◌, ◌↔◌, IsTrue};
-ghost use Rattle.std.specs.List.Sorted.{IsSorted};
-ghost use Rattle.prog_tree.specs.Table.{cell_cmp, is_cell_among, is_in, lies_between};
+ghost use Rattle.prog_tree.specs.Table.{is_in, lies_between};
 ghost use Rattle.prog_tree.specs.Corners.{AreCorners};
 
 /// A cell of a table. In a table of one key column the second is 0.
@@ -22,14 +21,6 @@ pub struct Region {
     pub first_high: i64,
     pub second_low: i64,
     pub second_high: i64,
-}
-
-/// Whether a cell is one of some cells, found in few steps. Of cells that do not rise it may say
-/// either.
-pub fn is_among_rising(cells: &[Cell], cell: &Cell) -> bool
-    ensures { IsSorted cell_cmp cells.now → result ≡ is_cell_among cells.now cell.now }
-{
-    cells.binary_search(cell).is_ok()
 }
 
 fn lies_between(low: i64, x: i64, high: i64) -> bool

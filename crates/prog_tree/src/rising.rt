@@ -4,7 +4,7 @@ ghost use Rattle.std.specs.Prelude.{◌≡◌, ◌↔◌, [], IfOk, IsTrue};
 ghost use Rattle.std.specs.List.Sorted.{IsSorted};
 ghost use Rattle.prog_tree.specs.Table.{cell_cmp, is_cell_among};
 
-use crate::cell::{Cell, is_among_rising};
+use crate::cell::Cell;
 use crate::sequence::Sequence;
 use std::alloc::{AllocError, Global};
 use std::marker::Model;
@@ -71,6 +71,6 @@ impl RisingCells {
         ensures { result ≡ is_cell_among self.now cell.now }
     {
         let cells = self.cells.as_slice();
-        is_among_rising(cells, cell)
+        cells.binary_search(cell).is_ok()
     }
 }
