@@ -4,7 +4,7 @@ use example_sets::set_of;
 use prog_check::{ProgramSet, soundness};
 use prog_tree::{
     Cell, Look, Region, evaluations_depend_on_looks, evaluations_write_i64, i64_is_tested,
-    same_tables, table_states_stay_i64, table_states_stay_in_order,
+    same_bytes, same_tables, table_states_stay_i64, table_states_stay_in_order,
 };
 use std::alloc::Global;
 use std::process::Abort;
@@ -129,6 +129,14 @@ fn are_others_the_same() -> [bool; 5] {
 fn regions_are_the_same_by_table_and_ends(rt: HostRuntime) {
     assert!(rt; REGION.is_same(&REGION));
     assert!(rt; are_others_the_same() == [false; 5]);
+}
+
+#[test]
+fn words_are_the_same_by_their_bytes(rt: HostRuntime) {
+    assert!(rt; same_bytes(b"total", b"total"));
+    for other in ["", "tota", "totals", "Total"] {
+        assert!(rt; !same_bytes(b"total", other.as_bytes()), "{other}");
+    }
 }
 
 #[test]

@@ -6,7 +6,7 @@ ghost use Rattle.prog_tree.specs.Value.{same_name};
 ghost use Rattle.prog_check.specs.Names.{is_among, place_among};
 
 use indexmap::IndexSet;
-use prog_tree::Name;
+use prog_tree::{Name, same_bytes};
 use std::alloc::{AllocError, Global};
 use std::marker::Model;
 
@@ -27,20 +27,13 @@ impl Model for Names {
     ghost view = { λ n. map string_bytes n.texts.keys };
 }
 
-// Whether both are the same. Names are short: going through their bytes is faster than a comparison
-// of long texts.
-fn is_same(name: &str, other: &str) -> bool
-    ensures { result ≡ same_name name.now other.now }
-{
-    let (bytes, others) = (name.as_bytes(), other.as_bytes());
-    bytes.len() == others.len() && bytes.iter().eq(others)
-}
-
 // The place of the first text that is a name.
 fn first_place(texts: &[String], name: &str) -> Option<usize>
     ensures { result ≡ position (λ text. same_name name.now (string_bytes text)) texts.now }
 {
-    texts.iter().position(|text| is_same(name, text.as_str()))
+    texts
+        .iter()
+        .position(|text| same_bytes(name.as_bytes(), text.as_bytes()))
 }
 
 impl Names {

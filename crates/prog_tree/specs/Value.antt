@@ -1,7 +1,6 @@
 -- What expressions and tests are worth.
-use Rattle.std.specs.Prelude.{ℤ, ◌+ℤ◌, ◌-ℤ◌, ◌*ℤ◌, nat_eq, int_lt, int_le, Bool, true, false, not, ◌&&◌, ◌||◌, List, [], ◌∷◌, Option, Some, None, if◌then◌else◌}
+use Rattle.std.specs.Prelude.{ℤ, ◌+ℤ◌, ◌-ℤ◌, ◌*ℤ◌, bytes_eq, int_lt, int_le, Bool, true, false, not, ◌&&◌, ◌||◌, List, [], ◌∷◌, Option, Some, None, if◌then◌else◌}
 use Rattle.std.specs.Ordering.{int_eq}
-use Rattle.std.specs.Cmp.Lexicographic.{pointwise}
 use Rattle.std.specs.Option.{option_or}
 use Rattle.prog_tree.specs.Number.{is_i64}
 use Rattle.prog_tree.specs.Syntax.{Name, ExprTree, Literal, Named, Plus, Minus, Times, RelationSign, Less, LessEqual, Greater, GreaterEqual, Equal, NotEqual, ComparisonTree, TestTree}
@@ -11,7 +10,7 @@ abbrev pub Bindings : Type 0
 Bindings = List (Name × ℤ)
 
 abbrev pub same_name : Name → Name → Bool
-same_name = pointwise nat_eq
+same_name = bytes_eq
 
 -- the last value of a name
 abbrev pub value_in : Bindings → Name → Option ℤ

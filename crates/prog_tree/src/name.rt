@@ -1,6 +1,6 @@
 //! Names, as bytes.
 
-ghost use Rattle.std.specs.Prelude.{◌≡◌, ◌↔◌, IfOk, IsTrue};
+ghost use Rattle.std.specs.Prelude.{◌≡◌, ◌↔◌, bytes_eq, IfOk, IsTrue};
 ghost use Rattle.prog_tree.specs.Value.{same_name};
 
 use std::alloc::{AllocError, Global};
@@ -19,6 +19,15 @@ impl Model for Name {
     ghost Value = { List ℕ };
 
     ghost view = { λ n. string_bytes n.text };
+}
+
+/// Whether both are the same bytes. It goes through them: for names and words that is faster than a
+/// comparison made for long texts.
+#[inline]
+pub fn same_bytes(bytes: &[u8], others: &[u8]) -> bool
+    ensures { result ≡ bytes_eq bytes.now others.now }
+{
+    bytes.len() == others.len() && bytes.iter().eq(others)
 }
 
 impl Name {
@@ -44,14 +53,12 @@ impl Name {
         })
     }
 
-    /// Whether both are the same. It goes through their bytes, which for short names is faster than
-    /// a comparison made for long texts.
+    /// Whether both are the same.
     pub fn is_same(&self, other: &Name) -> bool
         ensures same { IsTrue result ↔ (self.now ≡ other.now) }
         ensures test { result ≡ same_name self.now other.now }
     {
-        let (bytes, others) = (self.text.as_bytes(), other.text.as_bytes());
-        bytes.len() == others.len() && bytes.iter().eq(others)
+        same_bytes(self.text.as_bytes(), other.text.as_bytes())
     }
 }
 

@@ -10,6 +10,7 @@ ghost use Rattle.prog_text.specs.declared.lexing.token.Token.TheVariants as t;
 ghost use Rattle.prog_text.specs.declared.lexing.words.TheConstants.{RESERVED};
 
 use crate::lexing::token::{Sign, Token, Word};
+use prog_tree::same_bytes;
 
 /// What a word begins in the text of a set.
 #[derive(Clone, Copy, Debug, PartialEq, Eq)]
@@ -55,20 +56,13 @@ fn word(bytes: &[u8]) -> Word<'_>
     Word::new(unsafe { str::from_utf8_unchecked(bytes) })
 }
 
-// Words are short: going through their bytes is faster than a comparison of long texts.
-fn is_same(word: &[u8], other: &[u8]) -> bool
-    ensures { result ≡ bytes_eq word.now other.now }
-{
-    word.len() == other.len() && word.iter().eq(other)
-}
-
 // The sign that a table has for a word, by its first entry.
 fn lookup(mut table: &[(&str, Sign)], bytes: &[u8]) -> Option<Sign>
     ensures { result
         ≡ lookup (bytes_eq bytes.now) (map (λ entry. (entry.0.now, entry.1)) table.entry.now) }
 {
     while let [entry, rest @ ..] = table {
-        if is_same(bytes, entry.0.as_bytes()) {
+        if same_bytes(bytes, entry.0.as_bytes()) {
             return Some(entry.1);
         }
         table = rest;

@@ -3,6 +3,7 @@ ghost use Rattle.std.specs.Prelude.{◌≡◌, ◌<◌, [], ◌∷◌, bytes_eq,
 ghost use Rattle.si_engine.specs.Lines.{words_of};
 
 use crate::input::lines::cut;
+use prog_tree::same_bytes;
 use smallvec::SmallVec;
 use std::alloc::{AllocError, Global};
 use std::default::MadeWith;
@@ -38,13 +39,11 @@ impl<'a> Word<'a> {
         self.bytes
     }
 
-    // Whether it is such a text. Words are short: going through their bytes is faster than a
-    // comparison of long texts.
+    // Whether it is such a text.
     pub(crate) fn is(&self, text: &[u8]) -> bool
         ensures { result ≡ bytes_eq self.now text.now }
     {
-        let bytes = self.bytes;
-        bytes.len() == text.len() && bytes.iter().eq(text)
+        same_bytes(self.bytes, text)
     }
 }
 
