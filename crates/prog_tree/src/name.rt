@@ -71,3 +71,29 @@ impl fmt::Display for Name {
         f.write_str(self.as_str())
     }
 }
+
+/// Copies of names, in their order.
+pub fn copy_names(alloc: Global, names: &[Name]) -> Result<Vec<Name>, AllocError>
+    ensures { IfOk result (λ copies. copies.items ≡ names.now) }
+{
+    let mut copies = Vec::with_capacity(alloc, names.len())?;
+    for name in names {
+        copies.push(name.copy()?)?;
+    }
+    Ok(copies)
+}
+
+/// Whether both lists have the same names, in the same order.
+pub fn same_names(names: &[Name], others: &[Name]) -> bool
+    ensures { IsTrue result ↔ (names.now ≡ others.now) }
+{
+    if names.len() != others.len() {
+        return false;
+    }
+    for (name, other) in names.iter().zip(others) {
+        if !name.is_same(other) {
+            return false;
+        }
+    }
+    true
+}

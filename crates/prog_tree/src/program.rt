@@ -3,9 +3,9 @@
 ghost use Rattle.std.specs.Prelude.{◌≡◌, ◌↔◌, IfOk, IsTrue, map};
 ghost use Rattle.prog_tree.specs.Tree.{program_tree, draft_tree};
 
-use crate::name::Name;
+use crate::name::{Name, copy_names, same_names};
 use crate::stmt::Block;
-use crate::table::{TableDecl, same_tables};
+use crate::table::{TableDecl, copy_tables, same_tables};
 use std::alloc::{AllocError, Global};
 
 /// A program: its parameters and its body.
@@ -14,30 +14,6 @@ pub struct Program {
     pub name: Name,
     pub params: Vec<Name>,
     pub body: Block,
-}
-
-pub fn copy_names(alloc: Global, names: &[Name]) -> Result<Vec<Name>, AllocError>
-    ensures { IfOk result (λ copies. copies.items ≡ names.now) }
-{
-    let mut copies = Vec::with_capacity(alloc, names.len())?;
-    for name in names {
-        copies.push(name.copy()?)?;
-    }
-    Ok(copies)
-}
-
-fn same_names(names: &[Name], others: &[Name]) -> bool
-    ensures { IsTrue result ↔ (names.now ≡ others.now) }
-{
-    if names.len() != others.len() {
-        return false;
-    }
-    for (name, other) in names.iter().zip(others) {
-        if !name.is_same(other) {
-            return false;
-        }
-    }
-    true
 }
 
 impl Program {
@@ -69,21 +45,11 @@ pub struct Draft {
     pub programs: Vec<Program>,
 }
 
-pub fn copy_tables(alloc: Global, tables: &[TableDecl]) -> Result<Vec<TableDecl>, AllocError>
-    ensures { IfOk result (λ copies. copies.items ≡ tables.now) }
-{
-    let mut copies = Vec::with_capacity(alloc, tables.len())?;
-    for table in tables {
-        copies.push(table.copy()?)?;
-    }
-    Ok(copies)
-}
-
-fn copy_programs(programs: &Vec<Program>) -> Result<Vec<Program>, AllocError>
+fn copy_programs(alloc: Global, programs: &[Program]) -> Result<Vec<Program>, AllocError>
     ensures { IfOk result (λ copies.
-        map program_tree copies.items ≡ map program_tree programs.now.items) }
+        map program_tree copies.items ≡ map program_tree programs.now) }
 {
-    let mut copies = Vec::with_capacity(*programs.allocator(), programs.len())?;
+    let mut copies = Vec::with_capacity(alloc, programs.len())?;
     for program in programs {
         copies.push(program.copy()?)?;
     }
@@ -111,7 +77,7 @@ impl Draft {
     {
         Ok(Draft {
             tables: copy_tables(*self.tables.allocator(), &self.tables)?,
-            programs: copy_programs(&self.programs)?,
+            programs: copy_programs(*self.programs.allocator(), &self.programs)?,
         })
     }
 

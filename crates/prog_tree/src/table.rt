@@ -3,7 +3,7 @@
 ghost use Rattle.std.specs.Prelude.{◌≡◌, ◌↔◌, IfOk, IsTrue};
 
 use crate::name::Name;
-use std::alloc::AllocError;
+use std::alloc::{AllocError, Global};
 
 /// How many key columns a table has.
 #[derive(Clone, Copy, Debug, PartialEq, Eq)]
@@ -38,6 +38,17 @@ impl TableDecl {
     {
         self.name.is_same(&other.name) && self.arity == other.arity && self.grow == other.grow
     }
+}
+
+/// Copies of tables, in their order.
+pub fn copy_tables(alloc: Global, tables: &[TableDecl]) -> Result<Vec<TableDecl>, AllocError>
+    ensures { IfOk result (λ copies. copies.items ≡ tables.now) }
+{
+    let mut copies = Vec::with_capacity(alloc, tables.len())?;
+    for table in tables {
+        copies.push(table.copy()?)?;
+    }
+    Ok(copies)
 }
 
 /// Whether both lists declare the same tables, in the same order.

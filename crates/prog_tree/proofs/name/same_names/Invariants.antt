@@ -1,5 +1,5 @@
 use Rattle.std.proofs.Common.{◌≡◌, ◌↔◌, length}
-use Rattle.prog_tree.proofs.program.same_names.Given as goal
+use Rattle.prog_tree.proofs.name.same_names.Given as goal
 
 -- as many names are left in both, and they are the same exactly where all are
 abbrev pub invariant-loop-name : goal.invariant-loop-name

@@ -1,5 +1,5 @@
 use Rattle.std.proofs.Common.{◌≡◌, take}
-use Rattle.prog_tree.proofs.program.copy_names.Given as goal
+use Rattle.prog_tree.proofs.name.copy_names.Given as goal
 
 abbrev pub invariant-loop-name : goal.invariant-loop-name
 invariant-loop-name l = l.copies.items ≡ take l.name-index l.names
