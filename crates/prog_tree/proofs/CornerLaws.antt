@@ -11,6 +11,7 @@ use Rattle.prog_tree.specs.declared.cell.Cell.{Cell}
 use Rattle.prog_tree.specs.declared.cell.Region.{Region}
 use Rattle.prog_tree.specs.Table.{cell_cmp, is_in, lies_between}
 use Rattle.prog_tree.specs.Corners.{is_between, AreCorners}
+use Rattle.prog_tree.specs.Evaluation.{cell_in}
 
 -- ---- tests
 
@@ -61,13 +62,10 @@ le_from_not_gt Less h = refl
 le_from_not_gt Equal h = refl
 le_from_not_gt Greater h = absurd (cc)
 
-abbrev corner : ℕ → ℤ → ℤ → Cell
-corner table first second = record { table = table; first = first; second = second }
-
-not_gt : (t : ℕ) (a b x y : ℤ) → int_lt x a ≡ false → int_lt y b ≡ false → is_gt (cell_cmp (corner t a b) (corner t x y)) ≡ false
+not_gt : (t : ℕ) (a b x y : ℤ) → int_lt x a ≡ false → int_lt y b ≡ false → is_gt (cell_cmp (cell_in t a b) (cell_in t x y)) ≡ false
 not_gt t a b x y p q = then_not_gt _ _ (ap is_gt (tied_itself nat_cmp_total t)) (then_not_gt _ _ (cmp_not_gt a x p) (cmp_not_gt b y q))
 
-not_lt : (t : ℕ) (a b x y : ℤ) → int_lt a x ≡ false → int_lt b y ≡ false → is_lt (cell_cmp (corner t a b) (corner t x y)) ≡ false
+not_lt : (t : ℕ) (a b x y : ℤ) → int_lt a x ≡ false → int_lt b y ≡ false → is_lt (cell_cmp (cell_in t a b) (cell_in t x y)) ≡ false
 not_lt t a b x y p q = then_not_lt _ _ (ap is_lt (tied_itself nat_cmp_total t)) (then_not_lt _ _ (cmp_not_lt a x p) (cmp_not_lt b y q))
 
 -- ---- the corners
@@ -94,18 +92,18 @@ within r c h =
     }
 
 abbrev pub low_corner : Region → Cell
-low_corner r = corner r.table r.first_low r.second_low
+low_corner r = cell_in r.table r.first_low r.second_low
 
 abbrev pub high_corner : Region → Cell
-high_corner r = corner r.table r.first_high r.second_high
+high_corner r = cell_in r.table r.first_high r.second_high
 
 between : (r : Region) (c : Cell) → IsWithin r c → is_between (low_corner r) (high_corner r) c ≡ true
 between r c h =
     let low = not_gt c.table r.first_low r.second_low c.first c.second (not_above r.first_low c.first h.first_low) (not_above r.second_low c.second h.second_low) in
     let high = not_lt c.table r.first_high r.second_high c.first c.second (not_above c.first r.first_high h.first_high) (not_above c.second r.second_high h.second_high) in
     and_from _ _
-    (ap (λ t. is_le (cell_cmp (corner t r.first_low r.second_low) c)) h.table ∙ le_from_not_gt _ low)
-    (ap (λ t. not (is_lt (cell_cmp (corner t r.first_high r.second_high) c))) h.table ∙ ap not high)
+    (ap (λ t. is_le (cell_cmp (cell_in t r.first_low r.second_low) c)) h.table ∙ le_from_not_gt _ low)
+    (ap (λ t. not (is_lt (cell_cmp (cell_in t r.first_high r.second_high) c))) h.table ∙ ap not high)
 
 -- ---- the corners of a region whose ends are in order
 

@@ -13,7 +13,7 @@ use Rattle.prog_tree.specs.declared.look.Look.TheVariants as look
 use Rattle.prog_tree.specs.declared.table.TableDecl.{TableDecl}
 use Rattle.prog_tree.specs.declared.table.Arity.TheVariants as arity
 use Rattle.prog_tree.specs.ChangeSet.{ChangedCells, no_changes, changed}
-use Rattle.prog_tree.specs.Evaluation.{Evaluation, eval}
+use Rattle.prog_tree.specs.Evaluation.{Evaluation, cell_in, eval}
 use Rattle.prog_tree.specs.Number.{greatest}
 use Rattle.prog_tree.specs.Syntax.{ExprTree, Literal, Named, Plus, Minus, RelationSign, Less, TestTree, KeyTree, BlockTree, BlockEnd, Then, Branch, ProgramTree}
 use Rattle.prog_tree.specs.Syntax as s
@@ -33,9 +33,6 @@ number n = Literal (pos n)
 -- a cell of a table with one key column
 abbrev pub cell : ℕ → ℤ → Cell
 cell table k = record { table = table; first = k; second = pos 0 }
-
-abbrev cell_2 : ℕ → ℤ → ℤ → Cell
-cell_2 table a b = record { table = table; first = a; second = b }
 
 abbrev pub region : ℤ → ℤ → Region
 region low high = record { table = 0; first_low = low; first_high = high; second_low = pos 0; second_high = pos 0 }
@@ -67,28 +64,28 @@ own_body =
     (Then (s.Reply (Named (codes "s"))) BlockEnd)))))
 
 abbrev own_opening : TableState
-own_opening = (cell_2 0 (pos 7) (pos 1), pos 9) ∷ (cell_2 0 (pos 7) (pos 3), pos 4) ∷ (cell_2 0 (pos 8) (pos 2), pos 1) ∷ []
+own_opening = (cell_in 0 (pos 7) (pos 1), pos 9) ∷ (cell_in 0 (pos 7) (pos 3), pos 4) ∷ (cell_in 0 (pos 8) (pos 2), pos 1) ∷ []
 
 abbrev own_region : Region
 own_region = record { table = 0; first_low = pos 7; first_high = pos 7; second_low = pos 1; second_high = pos 3 }
 
 -- the row of the untouched cell is all that the snapshot is asked for
 abbrev own_look : Look
-own_look = look.Range own_region (cell_2 0 (pos 7) (pos 1) ∷ cell_2 0 (pos 7) (pos 2) ∷ []) ((cell_2 0 (pos 7) (pos 3), pos 4) ∷ [])
+own_look = look.Range own_region (cell_in 0 (pos 7) (pos 1) ∷ cell_in 0 (pos 7) (pos 2) ∷ []) ((cell_in 0 (pos 7) (pos 3), pos 4) ∷ [])
 
 abbrev own_run : Evaluation
 own_run = eval (record { name = codes "e"; arity = arity.Two; grow = false } ∷ []) (program_of (codes "d" ∷ []) own_body) (pos 7 ∷ []) own_opening
 
 pub own : own_run
     ≡ ready
-    (Put (cell_2 0 (pos 7) (pos 2)) (pos 5) ∷ Removed (cell_2 0 (pos 7) (pos 1)) ∷ Counted own_region (pos 2) ∷ Summed own_region (pos 9) ∷ [])
+    (Put (cell_in 0 (pos 7) (pos 2)) (pos 5) ∷ Removed (cell_in 0 (pos 7) (pos 1)) ∷ Counted own_region (pos 2) ∷ Summed own_region (pos 9) ∷ [])
     (pos 2 ∷ pos 9 ∷ [])
-    ((cell_2 0 (pos 7) (pos 1), None) ∷ (cell_2 0 (pos 7) (pos 2), Some (pos 5)) ∷ [])
+    ((cell_in 0 (pos 7) (pos 1), None) ∷ (cell_in 0 (pos 7) (pos 2), Some (pos 5)) ∷ [])
     (own_look ∷ own_look ∷ [])
 own = refl
 
 pub own_rows : changed own_opening own_run.changes.cells
-    ≡ (cell_2 0 (pos 7) (pos 2), pos 5) ∷ (cell_2 0 (pos 7) (pos 3), pos 4) ∷ (cell_2 0 (pos 8) (pos 2), pos 1) ∷ []
+    ≡ (cell_in 0 (pos 7) (pos 2), pos 5) ∷ (cell_in 0 (pos 7) (pos 3), pos 4) ∷ (cell_in 0 (pos 8) (pos 2), pos 1) ∷ []
 own_rows = refl
 
 -- ---- programs over `table t 1;`
