@@ -1,7 +1,19 @@
-"""What a program takes."""
+"""The programs that are measured, and what they take."""
 import os
 import subprocess
 import sys
+
+HERE = os.path.dirname(os.path.abspath(__file__))
+# the built program, where no other is named
+SIROB = os.path.join(HERE, "..", "crates", "sirob", "out", "sirob")
+
+
+def build_plain(room):
+    """Builds the plain Rust program in a folder, and returns its path."""
+    plain = os.path.join(room, "plain")
+    source = os.path.join(HERE, "plain", "main.rs")
+    subprocess.run(["rustc", "-O", "--edition", "2021", source, "-o", plain], check=True)
+    return plain
 
 
 def used(command, source, sink, ends):

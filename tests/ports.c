@@ -1,6 +1,7 @@
 /* Preloaded into the program: makes its ports fail or give little.
-   READ_FAILS and WRITE_FAILS have the number, from 1, of the read of the standard input and of the write to the standard
-   output that fails; SAID_FAILS that of the write to the standard error. Where one does the file FAILED is made.
+   READ_FAILS and WRITE_FAILS have the number, from 1, of the read of the standard input and of the write to the
+   standard output that fails; SAID_FAILS that of the write to the standard error. Where one does the file FAILED is
+   made.
    Where ONE_BYTE stands each of these reads gives one byte, and each of these writes takes one. */
 #define _GNU_SOURCE
 #include <dlfcn.h>

@@ -65,7 +65,8 @@ pub struct Store {
 impl Store {
     pub fn open(rows: BTreeMap<Cell, i64>) -> Store {
         let chain = |value| Chain { versions: vec![(0, Some(value))], mark: 0 };
-        Store { chains: rows.into_iter().map(|(cell, value)| (cell, chain(value))).collect(), commits: 0, pending: VecDeque::new() }
+        let chains = rows.into_iter().map(|(cell, value)| (cell, chain(value))).collect();
+        Store { chains, commits: 0, pending: VecDeque::new() }
     }
 
     pub fn clash(&self, start: u64, run: &Run) -> Option<(Cell, u64)> {
@@ -386,7 +387,8 @@ pub struct Engine<'a> {
 
 impl<'a> Engine<'a> {
     pub fn open(set: &'a Set, rows: BTreeMap<Cell, i64>) -> Engine<'a> {
-        Engine { set, store: Store::open(rows), begun: Vec::new(), active: BTreeSet::new(), floor: 0, traces: Vec::new() }
+        let store = Store::open(rows);
+        Engine { set, store, begun: Vec::new(), active: BTreeSet::new(), floor: 0, traces: Vec::new() }
     }
 
     /// The instance's number and start, where the arguments fit.

@@ -1,4 +1,5 @@
-//! Lists of jobs, run by workers over one store under one lock, which looks share, and then compared with what the store kept.
+//! Lists of jobs, run by workers over one store under one lock, which looks share, and then compared with what the
+//! store kept.
 use crate::engine::{Cause, Cell, Run, Snapshots, Stop, Store};
 use crate::order::{Order, Trace, serial_order};
 use crate::program::Set;
@@ -208,7 +209,8 @@ fn compare(jobs: &[Job], outcomes: &[Outcome], book: &Book) {
         if let End::Committed { number, replies } = &outcome.end {
             let at = *number as usize - 1;
             let row = &book.rows[at];
-            assert!(row.program == job.program && row.args == job.args && row.replies == *replies, "another job's commit");
+            let is_of_job = row.program == job.program && row.args == job.args && row.replies == *replies;
+            assert!(is_of_job, "another job's commit");
             assert!(!std::mem::replace(&mut is_told[at], true), "two jobs of one commit");
         }
     }

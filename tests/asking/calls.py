@@ -1,5 +1,4 @@
 """Runs of the program that is tested, and what they take."""
-import glob
 import os
 import resource
 import subprocess
@@ -81,24 +80,6 @@ class Tally:
         """Prints the sum, and returns the script's status."""
         print(f"{self.passed} passed, {self.failed} failed")
         return 1 if self.failed else 0
-
-
-def case(*path):
-    """A file of a case."""
-    here = os.path.dirname(os.path.abspath(__file__))
-    with open(os.path.join(here, "..", "..", "cases", *path), "rb") as file:
-        return file.read()
-
-
-def cases_of(group):
-    """The cases of a group whose input and output are files: name, words, input, and status with output."""
-    here = os.path.dirname(os.path.abspath(__file__))
-    for path in sorted(glob.glob(os.path.join(here, "..", "..", "cases", group, "*", "stdin"))):
-        name = os.path.basename(os.path.dirname(path))
-        if os.path.isfile(os.path.join(os.path.dirname(path), "stdout")):
-            words = case(group, name, "args").decode().splitlines()
-            told = int(case(group, name, "status")), case(group, name, "stdout")
-            yield name, words, case(group, name, "stdin"), told
 
 
 def asked(doc):

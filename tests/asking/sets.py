@@ -55,7 +55,8 @@ class Maker:
             return [f"{kind} {cell} = {self.expression(names)};"]
         if kind == "if" and deep < MOST_DEEP:
             test = f"{self.expression(names)} {chance.choice(('<', '<=', '==', '!='))} {self.expression(names)}"
-            return [f"if {test} {{", *self.block(list(names), deep + 1), "} else {", *self.block(list(names), deep + 1), "}"]
+            then, otherwise = self.block(list(names), deep + 1), self.block(list(names), deep + 1)
+            return [f"if {test} {{", *then, "} else {", *otherwise, "}"]
         if kind == "each" and deep < MOST_DEEP:
             inner = [f"k{self.bound}", f"x{self.bound}"]
             self.bound += 1

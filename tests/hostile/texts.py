@@ -12,7 +12,10 @@ LONGEST = 1048576
 TOKEN = re.compile(rb"([ \t\n\r]+|#[^\n]*)|([A-Za-z_][A-Za-z0-9_]*)|([0-9]+)|(\.\.|[<>=!]=|[()\[\]{},;=+*<>-])")
 RELATIONS = ("<", "<=", ">", ">=", "==", "!=")
 # where the key or the range stands in a statement of the store
-PLACES = {"get": 2, "need": 2, "count": 2, "sum": 2, "each": 3, "lacks": 1, "put": 1, "insert": 1, "delete": 1, "keep": 1}
+PLACES = {
+    "get": 2, "need": 2, "count": 2, "sum": 2, "each": 3,
+    "lacks": 1, "put": 1, "insert": 1, "delete": 1, "keep": 1,
+}
 OVER_RANGES = ("count", "sum", "each")
 # how many names a statement binds
 BINDS = {"let": 1, "get": 1, "need": 1, "count": 1, "sum": 1, "each": 2}
