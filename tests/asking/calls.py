@@ -6,8 +6,9 @@ import sys
 import tempfile
 from dataclasses import dataclass
 
-# a run that hangs is ended after so many seconds
+# a run that hangs is ended after so many seconds, and told with a status that the program never has
 PATIENCE = 120
+HANGS = 124
 
 
 @dataclass
@@ -39,10 +40,13 @@ def answer(binary, words, given, **more):
 MEASURE = """
 import resource, subprocess, sys, time
 begun = time.monotonic()
-status = subprocess.run(sys.argv[3:], timeout=float(sys.argv[1])).returncode
+try:
+    status = subprocess.run(sys.argv[4:], timeout=float(sys.argv[1])).returncode
+except subprocess.TimeoutExpired:
+    status = sys.argv[2]
 elapsed = time.monotonic() - begun
 spent = resource.getrusage(resource.RUSAGE_CHILDREN)
-with open(sys.argv[2], "w") as it:
+with open(sys.argv[3], "w") as it:
     it.write(f"{status} {spent.ru_utime + spent.ru_stime} {elapsed} {spent.ru_maxrss}")
 """
 
@@ -54,7 +58,7 @@ def measured(binary, words, whole):
         with open(files[0], "wb") as it:
             it.write(whole)
         with open(files[0], "rb") as given, open(files[1], "wb") as output, open(files[2], "wb") as said:
-            command = [sys.executable, "-S", "-c", MEASURE, str(PATIENCE), files[3], binary, *words]
+            command = [sys.executable, "-S", "-c", MEASURE, str(PATIENCE), str(HANGS), files[3], binary, *words]
             subprocess.run(command, stdin=given, stdout=output, stderr=said, check=True)
         told = []
         for name in files[1:]:
