@@ -1,9 +1,11 @@
 """Runs of the program that is tested, and what they take."""
+import argparse
 import os
 import resource
 import subprocess
 import sys
 import tempfile
+import time
 from dataclasses import dataclass
 
 # a run that hangs is ended after so many seconds, and told with a status that the program never has
@@ -29,11 +31,14 @@ def used():
     return spent.ru_utime + spent.ru_stime
 
 
-def answer(binary, words, given, **more):
-    """What the program answers to some words and an input."""
-    before = used()
-    done = subprocess.run([binary, *words], input=given, capture_output=True, timeout=PATIENCE, **more)
-    return Answer(done.returncode, done.stdout, done.stderr, used() - before)
+def answer(binary, words, given=b"", **how):
+    """What the program answers to some words and an input. A port that is named takes the place of a pipe."""
+    how = {"stdout": subprocess.PIPE, "stderr": subprocess.PIPE, "timeout": PATIENCE, **how}
+    if "stdin" not in how:
+        how["input"] = given.encode() if isinstance(given, str) else given
+    before, begun = used(), time.monotonic()
+    done = subprocess.run([binary, *words], **how)
+    return Answer(done.returncode, done.stdout, done.stderr, used() - before, time.monotonic() - begun)
 
 
 # Runs a program in a small process of its own: the most memory that is told of a child is never less than its parent's.
@@ -86,12 +91,11 @@ class Tally:
         return 1 if self.failed else 0
 
 
-def asked(doc):
-    """The program, and whether all is asked for; None where the words are wrong."""
-    words = sys.argv[1:]
-    is_all = "--all" in words
-    words = [word for word in words if word != "--all"]
-    if len(words) != 1:
-        print(doc, file=sys.stderr)
-        return None, False
-    return os.path.abspath(words[0]), is_all
+def words_of(doc, **flags):
+    """The words of a script with this docstring: the program, and flags, each with what it is where it isn't named."""
+    parser = argparse.ArgumentParser(usage=doc.split("\n\n")[1].removeprefix("usage: "))
+    parser.add_argument("binary", type=os.path.abspath)
+    for name, value in flags.items():
+        how = {"action": "store_true"} if value is False else {"type": int, "default": value}
+        parser.add_argument(f"--{name}", **how)
+    return parser.parse_args()

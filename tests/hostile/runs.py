@@ -152,8 +152,8 @@ class Instance:
 
         def is_in(cell):
             return cell[0] == table and list(cell[1:columns]) == front and low <= cell[columns] <= high
-        self.looked.append(lambda other: is_in(other) and other not in own)
         own = set(self.changes)
+        self.looked.append(lambda other: is_in(other) and other not in own)
         state = {**self.engine.states[self.start], **self.changes}
         region = f"{place[0]}[{''.join(f'{it}, ' for it in front)}{low}..{high}]"
         found = sorted((cell, value) for cell, value in state.items() if is_in(cell) and value is not None)
