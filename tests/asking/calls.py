@@ -37,7 +37,10 @@ def answer(binary, words, given=b"", **how):
     if "stdin" not in how:
         how["input"] = given.encode() if isinstance(given, str) else given
     before, begun = used(), time.monotonic()
-    done = subprocess.run([binary, *words], **how)
+    try:
+        done = subprocess.run([binary, *words], **how)
+    except subprocess.TimeoutExpired as it:
+        done = subprocess.CompletedProcess(it.cmd, HANGS, it.stdout or b"", it.stderr or b"")
     return Answer(done.returncode, done.stdout, done.stderr, used() - before, time.monotonic() - begun)
 
 

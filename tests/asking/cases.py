@@ -14,8 +14,8 @@ class Case:
 
     name: str
     words: list
-    given: bytes
-    output: bytes
+    given: bytes = b""
+    output: bytes = b""
     status: int = 0
     said: bytes = b""  # on the standard error, where a test asks for it
 
