@@ -28,7 +28,7 @@ class WrongBody:
 class Batch:
     bodies: list = field(default_factory=list)
     texts: dict = field(default_factory=dict)  # as the edits make them
-    turned: dict = field(default_factory=dict)  # for each edit, the files and paths of the functions that have its lines
+    turned: dict = field(default_factory=dict)  # the files and paths of the functions that have each edit's lines
     in_place: list = field(default_factory=list)  # those of the bodies that make no functions of their own
     unproved: list = field(default_factory=list)  # the functions that these leave without a proof and don't turn
 
@@ -60,9 +60,8 @@ def wrong_body(edit, texts):
     """Returns the edit with the functions that it is of: the one that it names, or else all that it changes."""
     functions = all_functions(texts)
     _, touched = apply(edit, texts)
-    changed = [
-        function_at([it for it in functions if it.file == file], line) for file, lines in touched.items() for line in lines
-    ]
+    places = [(file, line) for file, lines in touched.items() for line in lines]
+    changed = [function_at([it for it in functions if it.file == file], line) for file, line in places]
     is_alone = None in changed
     named = [it for it in functions if edit.function == it.name]
     if edit.function and not named:

@@ -20,7 +20,8 @@ KIT = os.path.dirname(os.path.dirname(os.path.realpath(shutil.which("rt"))))
 
 # an error of a proof file that only misses what the edit took away, which says little of the contract
 OF_NAMES = re.compile(
-    r"has no field|projects from a record, but|is not in scope(?! here, so)|has no `|has no such|was not admitted|is not admitted"
+    r"has no field|projects from a record, but|is not in scope(?! here, so)|has no `|has no such"
+    r"|was not admitted|is not admitted"
 )
 
 # what is said of a function of which nothing else is refused
@@ -98,7 +99,8 @@ def check_of(crate, texts, functions, kept):
             with open(f"{room}/{path}", "w", encoding="utf-8") as it:
                 it.write(text)
         only = [word for it in functions for word in ("--only", it.name)]
-        words = [f"{KIT}/bin/rattle", "check", *crate.words, "--allow-holes", *only, "--incremental", kept, "--progress"]
+        words = [f"{KIT}/bin/rattle", "check", *crate.words, "--allow-holes", *only, "--incremental", kept]
+        words.append("--progress")
         how = {"cwd": room, "stdin": subprocess.DEVNULL, "stdout": subprocess.PIPE, "stderr": subprocess.STDOUT}
         lines, seconds, since = [], {}, time.monotonic()
         with subprocess.Popen(words, **how, text=True, errors="replace") as check:
@@ -135,7 +137,8 @@ def errors_in(said, function):
 
 def open_goals(said, function):
     """Returns what the check says of each goal of a function that no answer and no search proves."""
-    found = re.findall(r"^note: (\S+?):(\d+):\d+: (it is not proved that .*|`search` found no proof .*)", said.text, re.M)
+    unproved = r"^note: (\S+?):(\d+):\d+: (it is not proved that .*|`search` found no proof .*)"
+    found = re.findall(unproved, said.text, re.M)
     return [
         text
         for file, line, text in found
@@ -150,7 +153,10 @@ def kinds_in(names, text):
 
 def errors_of_proof(said, function):
     """Returns the names of a function's proof files that antt refuses, each with an error."""
-    room = "/".join(function.path) if function.is_plain else rf"(?:{'/'.join(function.path[:-1])}/\+?\w+|{'/'.join(function.path)})"
+    room = "/".join(function.path)
+    if not function.is_plain:
+        # or that of its type's trait, or of its cycle
+        room = rf"(?:{'/'.join(function.path[:-1])}/\+?\w+|{room})"
     return re.findall(rf"^(?:\./)?proofs/{room}/(\w+)\.antt:\d+:\d+: error: (.*)", said.text, re.M)
 
 

@@ -19,8 +19,12 @@ class Edit:
     function: str = ""
 
 
+def name_of(path):
+    return os.path.basename(path).removesuffix(".edit")
+
+
 def read_edit(path):
-    edit, file, old = Edit(os.path.basename(path).removesuffix(".edit")), None, None
+    edit, file, old = Edit(name_of(path)), None, None
     with open(path, encoding="utf-8") as lines:
         for line in lines.read().split("\n"):
             word, _, text = line.partition(": ") if ": " in line else line.partition(":")

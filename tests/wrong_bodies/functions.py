@@ -104,8 +104,8 @@ def functions_of(file, text):
                 brace, behind = body_of(plain, at)
                 first, last = plain.count("\n", 0, item.start()) + 1, plain.count("\n", 0, behind) + 1
                 is_plain = not is_trait and "cycle" not in item["attributes"]
-                span = (item.start(), behind)
-                found.append(Function(file, first, last, (*path, item["name"]), is_plain, plain[slice(*span)], span, brace))
+                span, names = (item.start(), behind), (*path, item["name"])
+                found.append(Function(file, first, last, names, is_plain, plain[slice(*span)], span, brace))
             at = behind
 
     walk(0, len(plain), module_of(file), False)
@@ -140,8 +140,9 @@ def calls(caller, callee):
     """Whether a function's body names another as something that it calls, or hands on: a method behind a value or a
     type, any other by no value."""
     name, owner = re.escape(callee.path[-1]), callee.path[-2:-1]
+    of_method, of_other = rf"(?:\.\s*|::){name}\b", rf"(?<![.\w]){name}\b(?!\s*:(?!:))"
     is_method = bool(owner) and owner[0][:1].isupper()
-    return bool(re.search(rf"(?:\.\s*|::){name}\b" if is_method else rf"(?<![.\w]){name}\b(?!\s*:(?!:))", body_text(caller)))
+    return re.search(of_method if is_method else of_other, body_text(caller)) is not None
 
 
 def calls_itself(function):
