@@ -158,7 +158,8 @@ fn push_changes(changes: &Changes, text: &mut String) -> Result<(), AllocError> 
     Ok(())
 }
 
-/// The changes from `t[2]` on.
+/// The changes from `t[2]` on. The two cells are written out: `between` asks that they stand in
+/// order, and `cell` promises nothing.
 fn push_between(changes: &Changes, text: &mut String) -> Result<(), AllocError> {
     let low = Cell {
         table: 0,

@@ -1,5 +1,5 @@
-//! Worked examples of the calls of the language's crates. What the program shows in `cases/` is
-//! left to the cases.
+//! Worked examples of the calls of the language's crates, of the places of a text, and of the words
+//! for its faults. What the program shows in `cases/` is left to the cases.
 #![tactic(auto)]
 
 #[cfg(test)]
