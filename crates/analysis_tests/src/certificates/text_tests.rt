@@ -234,6 +234,31 @@ fn a_text_of_several_pieces_is_written_as_it_was_read(rt: HostRuntime) {
     assert!(rt; is_written_as(rt.alloc(), text.as_str(), text.as_str()));
 }
 
+fn reason_count(certificate: &Certificate) -> usize {
+    let (_, reasons) = certificate.entries.parts();
+    reasons.len()
+}
+
+/// How many reasons are kept of a certificate that was read.
+fn reasons_read(alloc: Global, text: &str) -> Option<usize> {
+    match from_json(alloc, text.as_bytes()) {
+        Ok(certificate) => {
+            let count = reason_count(&certificate);
+            drop(certificate);
+            Some(count)
+        }
+        Err(_) => None,
+    }
+}
+
+#[test]
+fn a_reason_that_was_read_is_shared(rt: HostRuntime) {
+    let text = long_text(rt.alloc(), 1_000).expect(&rt, "memory");
+    // For shorter texts no reason is remembered.
+    assert!(rt; text.len() > 16_384);
+    assert!(rt; reasons_read(rt.alloc(), text.as_str()) == Some(1));
+}
+
 fn chain(rt: &impl Abort, alloc: Global, nodes: [Node; 2]) -> Chain {
     let nodes = Vec::from_array(alloc, nodes).expect(rt, "memory");
     Chain::from_vec(nodes).expect(rt, "numbers that a text can say")

@@ -228,6 +228,24 @@ fn a_verdict_is_found_by_its_number(rt: HostRuntime) -> Result<(), Fail> {
     Ok(())
 }
 
+/// Two programs that are alike. Their three questions are of two puts each.
+const ALIKE: &str = "\
+table t 1;
+program One(a) { put t[a] = 0; }
+program Other(a) { put t[a] = 0; }
+";
+
+#[test]
+fn questions_that_are_alike_share_a_verdict(rt: HostRuntime) -> Result<(), Fail> {
+    let paths = paths_of(rt.alloc(), ALIKE)?;
+    let table = table_of(&rt, rt.alloc(), &paths);
+    drop(paths);
+    let table = table?;
+    assert!(rt; table.len() == 3);
+    assert!(rt; table.verdicts().len() == 1);
+    Ok(())
+}
+
 #[test]
 fn more_than_a_million_questions_are_too_many(rt: HostRuntime) -> Result<(), Fail> {
     let paths = wide_paths(rt.alloc(), 2)?;
