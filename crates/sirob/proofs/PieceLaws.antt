@@ -11,7 +11,7 @@ use Rattle.robust_cert.specs.declared.certificate.Certificate.{Certificate}
 use Rattle.robust_cert.specs.Accepted.{IsAccepted}
 use Rattle.robust_cert.specs.Json.{certificate_text}
 use Rattle.robust_cert.specs.Pieces.{TextLeft, text_left}
-use Rattle.si_engine.specs.Writing.{AppendsFront, IsJust, WritesOr}
+use Rattle.si_engine.specs.Writing.{AppendsFront, IsJust}
 use Rattle.si_repair.specs.Findings.{IsCertificateOf}
 use Rattle.sirob.specs.declared.command_fault.CommandFault.{CommandFault}
 use Rattle.sirob.specs.declared.command_line.Mode.TheVariants.{Certify}
@@ -20,7 +20,7 @@ use Rattle.sirob.specs.declared.status.Status.TheVariants as status
 use Rattle.sirob.specs.FaultLines.{is_memory}
 use Rattle.sirob.specs.Output.{AsksFew, IsChecked}
 use Rattle.sirob.specs.Refusal.{refusal_text}
-use Rattle.sirob.specs.Stops.{IsInputDone, IsStop, IsTextOrStop, write_lost}
+use Rattle.sirob.specs.Stops.{IsInputDone, IsStop, IsTextOrStop, WritesWithEnd, write_lost}
 use Rattle.sirob.proofs.StopLaws.{front_before, front_behind, stops_at_once}
 
 -- ---- pieces
@@ -54,19 +54,19 @@ all_taken old now behind whole given none =
 -- ---- a text, or nothing
 
 -- memory ran out before the first byte
-pub stopped_before : (text : List ℕ) (end : Status) (f : CommandFault) (failed : Bool) (old : Option (List ℕ)) → failed ≡ false → is_memory f ≡ true → WritesOr (Err write_lost) (IsTextOrStop text end) failed old old (Err f)
+pub stopped_before : (text : List ℕ) (end : Status) (f : CommandFault) (failed : Bool) (old : Option (List ℕ)) → failed ≡ false → is_memory f ≡ true → WritesWithEnd (IsTextOrStop text end) failed old old (Err f)
 stopped_before text end f true old works memory = absurd (false≢true (sym works))
 stopped_before text end f false old works memory = ([], (tt, (refl, memory)), Appends-nil old)
 
 -- the sink failed within the text
 pub text_lost : (text : List ℕ) (end : Status) (failed : Bool) (old new : Option (List ℕ)) (first rest : List ℕ) → first ++ rest ≡ text → failed ≡ true → AppendsFront old new first
-    → WritesOr (Err write_lost) (IsTextOrStop text end) failed old new (Err write_lost)
+    → WritesWithEnd (IsTextOrStop text end) failed old new (Err write_lost)
 text_lost text end false old new first rest whole fails front = absurd (false≢true fails)
 text_lost text end true old new first rest whole fails front = (refl, first ++ rest, Ok end, ((whole, refl), tt), front_before old new first rest front)
 
 -- the first bytes of the text were taken, and then the rest is written
 pub text_behind : (text : List ℕ) (end : Status) (failed : Bool) (old mid new : Option (List ℕ)) (first rest : List ℕ) (ended : Result Status CommandFault) → first ++ rest ≡ text → Appends old mid first
-    → WritesOr (Err write_lost) (IsJust rest (Ok end)) failed mid new ended → WritesOr (Err write_lost) (IsTextOrStop text end) failed old new ended
+    → WritesWithEnd (IsJust rest (Ok end)) failed mid new ended → WritesWithEnd (IsTextOrStop text end) failed old new ended
 text_behind text end false old mid new first rest ended whole appends (written, just, more) =
     let is = ap (λ (s : List ℕ). first ++ s) just.0 ∙ whole in
     (first ++ written, subst (IsTextOrStop text end (first ++ written)) (sym just.1) ((is, refl), tt), Appends-trans old mid new first written appends more)

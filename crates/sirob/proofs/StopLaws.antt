@@ -40,7 +40,7 @@ use Rattle.sirob.specs.FaultLines.{fault_line, is_memory}
 use Rattle.sirob.specs.Output.{parts_wanted, Gives, IsAnalysedFor, IsRobust, GivesPart, GivesFirstPart, MayEnd, MayRun, IsAudited, IsChecked, IsFaultOf, IsFaultOfInput, IsFaultOfPart, StopsBehind, at_once, behind_lines, memory_line, IsAnswer, done, at_fault, stopped, IsUnread, IsReply, WritesWithStatus}
 use Rattle.sirob.specs.Output as u
 use Rattle.sirob.specs.Status.{status_of}
-use Rattle.sirob.specs.Stops.{IsUnanalysedBy, IsUnrepairedBy, IsStop, IsReadFault, Ends, well, in_fault, in_memory, IsSetAndPart, IsPartStop, IsPartDone, IsFaultOfJobs, IsInputDone, IsSourceDone, as_command, write_lost}
+use Rattle.sirob.specs.Stops.{IsUnanalysedBy, IsUnrepairedBy, IsStop, IsReadFault, Ends, well, in_fault, in_memory, IsSetAndPart, IsPartStop, IsPartDone, IsFaultOfJobs, IsInputDone, IsSourceDone, WritesWithEnd, as_command, write_lost}
 
 -- ---- how reading an input stops
 
@@ -303,7 +303,7 @@ some_end (Err f) = (memory_line, status.Memory, in_memory f)
 
 -- the sink failed on the way
 pub lost : (mode : Mode) (left : Option (List ℕ)) (source_failed failed : Bool) (old new : Option (List ℕ)) (ended : Result Status CommandFault)
-    → failed ≡ true → WritesOr (Err write_lost) (IsSourceDone mode left source_failed) failed old new ended → WritesWithStatus (IsReply mode left source_failed) failed old new status.Faulty
+    → failed ≡ true → WritesWithEnd (IsSourceDone mode left source_failed) failed old new ended → WritesWithStatus (IsReply mode left source_failed) failed old new status.Faulty
 lost mode left source_failed false old new ended fails writes = absurd (cc)
 lost mode left source_failed true old new ended fails (lost_is, lines, meant, given, appends) =
     let behind = some_end meant in
@@ -311,7 +311,7 @@ lost mode left source_failed true old new ended fails (lost_is, lines, meant, gi
 
 -- the sink took all lines
 pub whole : (mode : Mode) (left : Option (List ℕ)) (source_failed mid_failed failed : Bool) (old mid new : Option (List ℕ)) (ended : Result Status CommandFault) (end : Status)
-    → mid_failed ≡ false → WritesOr (Err write_lost) (IsSourceDone mode left source_failed) mid_failed old mid ended → WritesWithStatus (Ends ended) failed mid new end
+    → mid_failed ≡ false → WritesWithEnd (IsSourceDone mode left source_failed) mid_failed old mid ended → WritesWithStatus (Ends ended) failed mid new end
     → WritesWithStatus (IsReply mode left source_failed) failed old new end
 whole mode left source_failed true failed old mid new ended end works given behind = absurd (cc)
 whole mode left source_failed false false old mid new ended end works (lines, given, appends) (written, ends, more) =
@@ -339,7 +339,7 @@ not_broken true pulls before counted few none = let all = counted refl in absurd
 
 pub part_run : (robust : Bool) (set : DraftTree) (left part : List ℕ) (broken failed : Bool) (old new : Option (List ℕ)) (inner : Result Serializability PartFault)
     → MayRun robust set → left ≡ part → length part ≤ input_limit → broken ≡ false → WritesOr (Err s.WriteFault) (IsReplyOn robust set left broken) failed old new inner
-    → WritesOr (Err write_lost) (IsPartDone (Run robust) set part) failed old new (as_command inner)
+    → WritesWithEnd (IsPartDone (Run robust) set part) failed old new (as_command inner)
 part_run robust set left part true failed old new inner may same within works writes = absurd (cc)
 part_run robust set left part false failed old new inner may same within works writes =
     writes_or_as as_command (Err s.WriteFault) (IsReplyOn robust set left false) (IsPartDone (Run robust) set part) failed old new inner
@@ -347,19 +347,19 @@ part_run robust set left part false failed old new inner may same within works w
 
 -- a fault before anything is written
 pub input_stopped : (mode : Mode) (input : List ℕ) (f : CommandFault) (failed : Bool) (old : Option (List ℕ)) → failed ≡ false → IsStop mode input f []
-    → WritesOr (Err write_lost) (IsInputDone mode input) failed old old (Err f)
+    → WritesWithEnd (IsInputDone mode input) failed old old (Err f)
 input_stopped mode input f true old works stop = absurd (cc)
 input_stopped mode input f false old works stop = ([], (tt, stop), Appends-nil old)
 
 -- a fault of a set or its part before anything is written
 pub part_stopped : (mode : Mode) (set : DraftTree) (part : List ℕ) (f : CommandFault) (failed : Bool) (old : Option (List ℕ)) → failed ≡ false
-    → (is_memory f ≡ false → IsFaultOfPart mode set part f) → WritesOr (Err write_lost) (IsPartDone mode set part) failed old old (Err f)
+    → (is_memory f ≡ false → IsFaultOfPart mode set part f) → WritesWithEnd (IsPartDone mode set part) failed old old (Err f)
 part_stopped mode set part f true old works wrong = absurd (cc)
 part_stopped mode set part f false old works wrong = ([], (tt, part_at_once mode set part f wrong), Appends-nil old)
 
 pub done_of_part : (mode : Mode) (input : List ℕ) (set : DraftTree) (part : List ℕ) (failed : Bool) (old new : Option (List ℕ)) (ended : Result Status CommandFault)
-    → parts_wanted mode ≡ 2 → IsSetAndPart input set part → WritesOr (Err write_lost) (IsPartDone mode set part) failed old new ended
-    → WritesOr (Err write_lost) (IsInputDone mode input) failed old new ended
+    → parts_wanted mode ≡ 2 → IsSetAndPart input set part → WritesWithEnd (IsPartDone mode set part) failed old new ended
+    → WritesWithEnd (IsInputDone mode input) failed old new ended
 done_of_part mode input set part failed old new ended two has writes =
     writes_or_as (λ (e : Result Status CommandFault). e) (Err write_lost) (IsPartDone mode set part) (IsInputDone mode input) failed old new ended (part_is_input mode input set part two has) writes
 
@@ -374,14 +374,14 @@ unread_source mode f left false long fails is =
 
 pub read_stopped : (mode : Mode) (f : InputFault) (left : Option (List ℕ)) (source_failed failed : Bool) (old : Option (List ℕ)) → failed ≡ false
     → (f ≡ i.TooLong → IfSome left (λ all. input_limit < length all)) → (f ≡ i.ReadFault → source_failed ≡ true) → (source_failed ≡ true → f ≡ i.ReadFault)
-    → WritesOr (Err write_lost) (IsSourceDone mode left source_failed) failed old old (Err (fault.Input f))
+    → WritesWithEnd (IsSourceDone mode left source_failed) failed old old (Err (fault.Input f))
 read_stopped mode f left source_failed true old works long fails is = absurd (cc)
 read_stopped mode f left source_failed false old works long fails is = ([], unread_source mode f left source_failed long fails is, Appends-nil old)
 
 -- the source was read
 pub done_of_source : (mode : Mode) (left : Option (List ℕ)) (source_failed : Bool) (items input : List ℕ) (failed : Bool) (old new : Option (List ℕ)) (ended : Result Status CommandFault)
-    → input ≡ items → CanGive left items → (source_failed ≡ true → ⊥) → WritesOr (Err write_lost) (IsInputDone mode input) failed old new ended
-    → WritesOr (Err write_lost) (IsSourceDone mode left source_failed) failed old new ended
+    → input ≡ items → CanGive left items → (source_failed ≡ true → ⊥) → WritesWithEnd (IsInputDone mode input) failed old new ended
+    → WritesWithEnd (IsSourceDone mode left source_failed) failed old new ended
 done_of_source mode left true items input failed old new ended same can works writes = absurd (works refl)
 done_of_source mode left false items input failed old new ended same can works writes =
     writes_or_as (λ (e : Result Status CommandFault). e) (Err write_lost) (IsInputDone mode input) (IsSourceDone mode left false) failed old new ended turn writes

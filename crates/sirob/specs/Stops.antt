@@ -12,6 +12,7 @@ use Rattle.si_engine.specs.declared.input.part_fault.PartFault.TheVariants as pa
 use Rattle.si_engine.specs.declared.input.source.InputFault.TheVariants as input_fault
 use Rattle.si_engine.specs.Limits.{input_limit}
 use Rattle.si_engine.specs.Sources.{ForInput}
+use Rattle.si_engine.specs.Writing.{WritesOr}
 use Rattle.si_workers.specs.JobLines.{jobs_of}
 use Rattle.sirob.specs.declared.command_line.Mode.{Mode}
 use Rattle.sirob.specs.declared.commands.robust.Verified.{Verified}
@@ -27,6 +28,12 @@ use Rattle.sirob.specs.Status.{status_of}
 -- the sink failed
 abbrev pub write_lost : CommandFault
 write_lost = fault.Part part_fault.WriteFault
+
+-- such bytes were written, and a command ends so; one whose sink failed ends in that, behind some first of such bytes
+abbrev pub WritesWithEnd :
+    (means : List ℕ → Result Status CommandFault → Type 0) → (failed : Bool) → (old new : Option (List ℕ)) →
+    Result Status CommandFault → Type 0
+WritesWithEnd means failed old new ended = WritesOr (Err write_lost) means failed old new ended
 
 -- ---- an analysis
 

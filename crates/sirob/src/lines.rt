@@ -1,9 +1,9 @@
 //! Lines that a command writes to its sink.
 ghost use Rattle.std.specs.Io.KnownBytes.{Appends};
-ghost use Rattle.std.specs.Prelude.{◌≡◌, ◌↔◌, true, Err, IsErr, OnOk, OnErr};
+ghost use Rattle.std.specs.Prelude.{◌≡◌, ◌↔◌, true, IsErr, OnOk, OnErr};
 ghost use Rattle.robust_cert.specs.Pieces.{text_left};
-ghost use Rattle.si_engine.specs.Writing.{AppendsFront, IsJust, WritesOr};
-ghost use Rattle.sirob.specs.Stops.{write_lost};
+ghost use Rattle.si_engine.specs.Writing.{AppendsFront, IsJust};
+ghost use Rattle.sirob.specs.Stops.{WritesWithEnd};
 
 use crate::command_fault::CommandFault;
 use crate::status::Status;
@@ -16,7 +16,7 @@ pub fn write_lines<K: Sink>(
     lines: &[u8],
     ended: Result<Status, CommandFault>,
 ) -> Result<Status, CommandFault>
-    ensures { WritesOr (Err write_lost) (IsJust lines.now ended)
+    ensures { WritesWithEnd (IsJust lines.now ended)
         (K.has_failed sink.new) (K.taken sink.old) (K.taken sink.new) result }
 {
     let lost = CommandFault::Part(PartFault::WriteFault);

@@ -1,10 +1,10 @@
 //! Carries out what the words ask for, from a source to a sink.
 ghost use Rattle.std.specs.Prelude.{◌≡◌, ◌≤◌, ◌+◌, false, Err, length};
 ghost use Rattle.si_engine.specs.Limits.{input_limit};
-ghost use Rattle.si_engine.specs.Writing.{IsJust, WritesOr};
+ghost use Rattle.si_engine.specs.Writing.{IsJust};
 ghost use Rattle.sirob.specs.FaultLines.{is_memory};
 ghost use Rattle.sirob.specs.Output.{is_work, parts_wanted, IsReply, WritesWithStatus};
-ghost use Rattle.sirob.specs.Stops.{IsInputDone, IsSourceDone, Ends, write_lost};
+ghost use Rattle.sirob.specs.Stops.{IsInputDone, IsSourceDone, Ends, WritesWithEnd};
 
 use crate::command_fault::{CommandFault, fault_line};
 use crate::command_line::Mode;
@@ -37,7 +37,7 @@ fn part_input<K: Sink>(
     requires working { K.has_failed sink.old ≡ false }
     requires two { parts_wanted mode ≡ 2 }
     requires no_work { is_work mode ≡ false }
-    ensures { WritesOr (Err write_lost) (IsInputDone mode input.now)
+    ensures { WritesWithEnd (IsInputDone mode input.now)
         (K.has_failed sink.new) (K.taken sink.old) (K.taken sink.new) result }
 {
     let alloc = rt.alloc();
@@ -62,7 +62,7 @@ fn answer_input<K: Sink>(
     requires short { length input.now ≤ input_limit }
     requires working { K.has_failed sink.old ≡ false }
     requires no_work { is_work mode ≡ false }
-    ensures { WritesOr (Err write_lost) (IsInputDone mode input.now)
+    ensures { WritesWithEnd (IsInputDone mode input.now)
         (K.has_failed sink.new) (K.taken sink.old) (K.taken sink.new) result }
 {
     match mode {
@@ -84,8 +84,7 @@ fn answer_source<S: Source, K: Sink>(
 ) -> Result<Status, CommandFault>
     requires working { K.has_failed sink.old ≡ false }
     requires no_work { is_work mode ≡ false }
-    ensures done { WritesOr (Err write_lost)
-        (IsSourceDone mode (S.left source.old) (S.has_failed source.new))
+    ensures done { WritesWithEnd (IsSourceDone mode (S.left source.old) (S.has_failed source.new))
         (K.has_failed sink.new) (K.taken sink.old) (K.taken sink.new) result }
     ensures reads { S.pulls source.new ≤ S.pulls source.old + MAX_READS }
 {

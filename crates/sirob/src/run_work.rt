@@ -1,9 +1,8 @@
 //! Does jobs by workers, from a source to a sink.
-ghost use Rattle.std.specs.Prelude.{◌≡◌, ◌≤◌, ◌+◌, false, Err, length};
+ghost use Rattle.std.specs.Prelude.{◌≡◌, ◌≤◌, ◌+◌, false, length};
 ghost use Rattle.si_engine.specs.Limits.{input_limit};
-ghost use Rattle.si_engine.specs.Writing.{WritesOr};
 ghost use Rattle.sirob.specs.Output.{IsReply, WritesWithStatus};
-ghost use Rattle.sirob.specs.Stops.{IsInputDone, IsSourceDone, write_lost};
+ghost use Rattle.sirob.specs.Stops.{IsInputDone, IsSourceDone, WritesWithEnd};
 ghost use Rattle.sirob.specs.declared.command_line.Mode.TheVariants as mode;
 
 use crate::command_fault::CommandFault;
@@ -30,7 +29,7 @@ fn work_input<R: AllocGlobal + Eprint + Clock + Watched + Threads + Wait + Sync,
 ) -> Result<Status, CommandFault>
     requires short { length input.now ≤ input_limit }
     requires working { K.has_failed sink.old ≡ false }
-    ensures { WritesOr (Err write_lost) (IsInputDone (mode.Work workers) input.now)
+    ensures { WritesWithEnd (IsInputDone (mode.Work workers) input.now)
         (K.has_failed sink.new) (K.taken sink.old) (K.taken sink.new) result }
 {
     let ReadSet { set, part } = read_text_and_part(rt.alloc(), input)?;
@@ -50,7 +49,7 @@ fn work_source<
     kept: &mut Kept,
 ) -> Result<Status, CommandFault>
     requires { K.has_failed sink.old ≡ false }
-    ensures done { WritesOr (Err write_lost)
+    ensures done { WritesWithEnd
         (IsSourceDone (mode.Work workers) (S.left source.old) (S.has_failed source.new))
         (K.has_failed sink.new) (K.taken sink.old) (K.taken sink.new) result }
     ensures reads { S.pulls source.new ≤ S.pulls source.old + MAX_READS }

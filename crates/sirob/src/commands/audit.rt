@@ -1,12 +1,11 @@
 //! The command `audit`: from the bytes of records to the rows that they leave.
-ghost use Rattle.std.specs.Prelude.{◌≡◌, false, [], Ok, Err, string_bytes, IfOk, IfErr};
+ghost use Rattle.std.specs.Prelude.{◌≡◌, false, [], Ok, string_bytes, IfOk, IfErr};
 ghost use Rattle.prog_tree.specs.Tree.{draft_tree};
 ghost use Rattle.history_book.specs.TrueBook.{IsTrueBook};
 ghost use Rattle.si_engine.specs.Records.{records_of};
-ghost use Rattle.si_engine.specs.Writing.{WritesOr};
 ghost use Rattle.sirob.specs.FaultLines.{is_memory};
 ghost use Rattle.sirob.specs.Output.{IsFaultOfPart};
-ghost use Rattle.sirob.specs.Stops.{IsPartDone, write_lost};
+ghost use Rattle.sirob.specs.Stops.{IsPartDone, WritesWithEnd};
 ghost use Rattle.sirob.specs.declared.command_line.Mode.TheVariants as mode;
 
 use crate::command_fault::CommandFault;
@@ -71,7 +70,7 @@ pub fn audit_part<K: Sink>(
     sink: &mut K,
     kept: &mut Kept,
 ) -> Result<Status, CommandFault>
-    ensures { WritesOr (Err write_lost) (IsPartDone mode.Audit (draft_tree set.now) part.now)
+    ensures { WritesWithEnd (IsPartDone mode.Audit (draft_tree set.now) part.now)
         (K.has_failed sink.new) (K.taken sink.old) (K.taken sink.new) result }
 {
     let mut lines = String::new(alloc);

@@ -1,15 +1,14 @@
 //! The command `certify`: from the bytes of its input to a certificate or the refusal of their set.
-ghost use Rattle.std.specs.Prelude.{◌≡◌, ◌≤◌, ◌++◌, false, [], ◌∷◌, Err, length, IfOk, IfErr};
+ghost use Rattle.std.specs.Prelude.{◌≡◌, ◌≤◌, ◌++◌, false, [], ◌∷◌, length, IfOk, IfErr};
 ghost use Rattle.prog_check.specs.Paths.{paths_of};
 ghost use Rattle.prog_tree.specs.Tree.{draft_tree};
 ghost use Rattle.robust_cert.specs.Json.{certificate_text};
 ghost use Rattle.si_engine.specs.Limits.{input_limit};
-ghost use Rattle.si_engine.specs.Writing.{WritesOr};
 ghost use Rattle.si_repair.specs.Findings.{IsRightFinding};
 ghost use Rattle.sirob.specs.FaultLines.{is_memory};
 ghost use Rattle.sirob.specs.Output.{AsksFew, IsChecked};
 ghost use Rattle.sirob.specs.Refusal.{refusal_text};
-ghost use Rattle.sirob.specs.Stops.{IsStop, IsInputDone, IsTextOrStop, IsUnanalysedBy, write_lost};
+ghost use Rattle.sirob.specs.Stops.{IsStop, IsInputDone, IsTextOrStop, IsUnanalysedBy, WritesWithEnd};
 ghost use Rattle.sirob.specs.declared.command_line.Mode.TheVariants as mode;
 ghost use Rattle.sirob.specs.declared.status.Status.TheVariants as status;
 
@@ -34,8 +33,7 @@ fn write_certificate<K: Sink>(
     sink: &mut K,
 ) -> Result<Status, CommandFault>
     requires { K.has_failed sink.old ≡ false }
-    ensures { WritesOr (Err write_lost)
-        (IsTextOrStop (certificate_text certificate.now ++ 10 ∷ []) status.Done)
+    ensures { WritesWithEnd (IsTextOrStop (certificate_text certificate.now ++ 10 ∷ []) status.Done)
         (K.has_failed sink.new) (K.taken sink.old) (K.taken sink.new) result }
 {
     let mut text = CertificateText::of(alloc, certificate)?;
@@ -53,7 +51,7 @@ fn write_refusal<K: Sink>(
     sink: &mut K,
 ) -> Result<Status, CommandFault>
     requires { K.has_failed sink.old ≡ false }
-    ensures { WritesOr (Err write_lost)
+    ensures { WritesWithEnd
         (IsTextOrStop (refusal_text (draft_tree set.now) danger.now) status.Unserializable)
         (K.has_failed sink.new) (K.taken sink.old) (K.taken sink.new) result }
 {
@@ -100,7 +98,7 @@ pub fn certify_input<K: Sink>(
 ) -> Result<Status, CommandFault>
     requires short { length input.now ≤ input_limit }
     requires working { K.has_failed sink.old ≡ false }
-    ensures { WritesOr (Err write_lost) (IsInputDone mode.Certify input.now)
+    ensures { WritesWithEnd (IsInputDone mode.Certify input.now)
         (K.has_failed sink.new) (K.taken sink.old) (K.taken sink.new) result }
 {
     let (set, finding) = input_finding(rt, input)?;

@@ -1,9 +1,8 @@
 //! The command `check`: from the bytes of its input to the canonical text of their set.
-ghost use Rattle.std.specs.Prelude.{◌≡◌, ◌≤◌, false, [], Err, length, IfOk, IfErr};
+ghost use Rattle.std.specs.Prelude.{◌≡◌, ◌≤◌, false, [], length, IfOk, IfErr};
 ghost use Rattle.si_engine.specs.Limits.{input_limit};
-ghost use Rattle.si_engine.specs.Writing.{WritesOr};
 ghost use Rattle.sirob.specs.Output.{Gives};
-ghost use Rattle.sirob.specs.Stops.{IsStop, IsInputDone, write_lost};
+ghost use Rattle.sirob.specs.Stops.{IsStop, IsInputDone, WritesWithEnd};
 ghost use Rattle.sirob.specs.declared.command_line.Mode.TheVariants as mode;
 ghost use Rattle.sirob.specs.declared.status.Status.TheVariants as status;
 
@@ -34,7 +33,7 @@ pub fn check_input<K: Sink>(
 ) -> Result<Status, CommandFault>
     requires short { length input.now ≤ input_limit }
     requires working { K.has_failed sink.old ≡ false }
-    ensures { WritesOr (Err write_lost) (IsInputDone mode.Check input.now)
+    ensures { WritesWithEnd (IsInputDone mode.Check input.now)
         (K.has_failed sink.new) (K.taken sink.old) (K.taken sink.new) result }
 {
     let text = canonical_text(alloc, input)?;

@@ -1,11 +1,10 @@
 //! The command `repair`: from the bytes of its input to the canonical text of their set, repaired.
-ghost use Rattle.std.specs.Prelude.{◌≡◌, ◌≤◌, false, [], Err, length, IfOk, IfErr};
+ghost use Rattle.std.specs.Prelude.{◌≡◌, ◌≤◌, false, [], length, IfOk, IfErr};
 ghost use Rattle.prog_tree.specs.Tree.{draft_tree};
 ghost use Rattle.si_engine.specs.Limits.{input_limit};
-ghost use Rattle.si_engine.specs.Writing.{WritesOr};
 ghost use Rattle.sirob.specs.FaultLines.{is_memory};
 ghost use Rattle.sirob.specs.Output.{Gives, IsRepaired};
-ghost use Rattle.sirob.specs.Stops.{IsStop, IsInputDone, IsUnrepairedBy, write_lost};
+ghost use Rattle.sirob.specs.Stops.{IsStop, IsInputDone, IsUnrepairedBy, WritesWithEnd};
 ghost use Rattle.sirob.specs.declared.command_line.Mode.TheVariants as mode;
 ghost use Rattle.sirob.specs.declared.status.Status.TheVariants as status;
 
@@ -66,7 +65,7 @@ pub fn repair_input<K: Sink>(
 ) -> Result<Status, CommandFault>
     requires short { length input.now ≤ input_limit }
     requires working { K.has_failed sink.old ≡ false }
-    ensures { WritesOr (Err write_lost) (IsInputDone (mode.Repair promoting) input.now)
+    ensures { WritesWithEnd (IsInputDone (mode.Repair promoting) input.now)
         (K.has_failed sink.new) (K.taken sink.old) (K.taken sink.new) result }
 {
     let text = repaired_text(alloc, promoting, input, &mut kept.repair)?;

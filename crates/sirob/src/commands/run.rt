@@ -1,10 +1,9 @@
 //! The command `run`: from the bytes of a script to the lines of its output.
-ghost use Rattle.std.specs.Prelude.{◌≡◌, ◌≤◌, Err, length, false, true};
+ghost use Rattle.std.specs.Prelude.{◌≡◌, ◌≤◌, length, false, true};
 ghost use Rattle.prog_tree.specs.Tree.{draft_tree};
 ghost use Rattle.si_engine.specs.Limits.{input_limit};
-ghost use Rattle.si_engine.specs.Writing.{WritesOr};
 ghost use Rattle.sirob.specs.Output.{IsRobust};
-ghost use Rattle.sirob.specs.Stops.{IsPartDone, as_command, write_lost};
+ghost use Rattle.sirob.specs.Stops.{IsPartDone, as_command, WritesWithEnd};
 ghost use Rattle.sirob.specs.declared.command_line.Mode.TheVariants as mode;
 
 use crate::command_fault::CommandFault;
@@ -39,7 +38,7 @@ pub fn run_part<K: Sink>(
     kept: &mut Kept,
 ) -> Result<Status, CommandFault>
     requires { length part.now ≤ input_limit }
-    ensures { WritesOr (Err write_lost) (IsPartDone (mode.Run false) (draft_tree set.now) part.now)
+    ensures { WritesWithEnd (IsPartDone (mode.Run false) (draft_tree set.now) part.now)
         (K.has_failed sink.new) (K.taken sink.old) (K.taken sink.new) result }
 {
     let mut keeper = Keeper { alloc, part, kept };
@@ -57,7 +56,7 @@ fn run_verified<K: Sink>(
 ) -> Result<Status, CommandFault>
     requires short { length part.now ≤ input_limit }
     requires robust { IsRobust (draft_tree set.now) }
-    ensures { WritesOr (Err write_lost) (IsPartDone (mode.Run true) (draft_tree set.now) part.now)
+    ensures { WritesWithEnd (IsPartDone (mode.Run true) (draft_tree set.now) part.now)
         (K.has_failed sink.new) (K.taken sink.old) (K.taken sink.new) result }
 {
     let mut keeper = Keeper { alloc, part, kept };
@@ -75,7 +74,7 @@ pub fn run_robust_part<K: Sink>(
 ) -> Result<Status, CommandFault>
     requires short { length part.now ≤ input_limit }
     requires working { K.has_failed sink.old ≡ false }
-    ensures { WritesOr (Err write_lost) (IsPartDone (mode.Run true) (draft_tree set) part.now)
+    ensures { WritesWithEnd (IsPartDone (mode.Run true) (draft_tree set) part.now)
         (K.has_failed sink.new) (K.taken sink.old) (K.taken sink.new) result }
 {
     match assess(rt, set, &mut kept.found)? {

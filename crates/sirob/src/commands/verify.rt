@@ -1,10 +1,9 @@
 //! The command `verify`: from a set and the bytes of a certificate to whether the set is robust.
-ghost use Rattle.std.specs.Prelude.{◌≡◌, false, Err, IfErr, OnOk};
+ghost use Rattle.std.specs.Prelude.{◌≡◌, false, IfErr, OnOk};
 ghost use Rattle.prog_tree.specs.Tree.{draft_tree};
-ghost use Rattle.si_engine.specs.Writing.{WritesOr};
 ghost use Rattle.sirob.specs.FaultLines.{is_memory};
 ghost use Rattle.sirob.specs.Output.{IsFaultOfPart, ShowsRobust};
-ghost use Rattle.sirob.specs.Stops.{IsPartDone, write_lost};
+ghost use Rattle.sirob.specs.Stops.{IsPartDone, WritesWithEnd};
 ghost use Rattle.sirob.specs.declared.command_line.Mode.TheVariants as mode;
 
 use crate::command_fault::CommandFault;
@@ -39,7 +38,7 @@ pub fn verify_part<K: Sink>(
     sink: &mut K,
 ) -> Result<Status, CommandFault>
     requires { K.has_failed sink.old ≡ false }
-    ensures { WritesOr (Err write_lost) (IsPartDone mode.Verify (draft_tree set) part.now)
+    ensures { WritesWithEnd (IsPartDone mode.Verify (draft_tree set) part.now)
         (K.has_failed sink.new) (K.taken sink.old) (K.taken sink.new) result }
 {
     check_certificate(alloc, set, part)?;

@@ -1,11 +1,10 @@
 //! The command `work`: from the bytes of a list of jobs to what came of them.
-ghost use Rattle.std.specs.Prelude.{◌≡◌, false, Ok, Err, IfOk, IfErr, string_bytes};
+ghost use Rattle.std.specs.Prelude.{◌≡◌, false, Ok, IfOk, IfErr, string_bytes};
 ghost use Rattle.prog_tree.specs.Tree.{draft_tree};
-ghost use Rattle.si_engine.specs.Writing.{WritesOr};
 ghost use Rattle.si_workers.specs.JobLines.{jobs_of};
 ghost use Rattle.sirob.specs.FaultLines.{is_memory};
 ghost use Rattle.sirob.specs.Output.{IsRobust, IsFaultOfPart, GivesWork};
-ghost use Rattle.sirob.specs.Stops.{IsPartDone, IsFaultOfJobs, write_lost};
+ghost use Rattle.sirob.specs.Stops.{IsPartDone, IsFaultOfJobs, WritesWithEnd};
 ghost use Rattle.sirob.specs.Work.{ends_in, counts_text, work_text};
 ghost use Rattle.sirob.specs.declared.command_line.Mode.TheVariants as mode;
 
@@ -112,7 +111,7 @@ pub fn work_part<R: AllocGlobal + Eprint + Clock + Watched + Threads + Wait + Sy
     kept: &mut Kept,
 ) -> Result<Status, CommandFault>
     requires { K.has_failed sink.old ≡ false }
-    ensures { WritesOr (Err write_lost) (IsPartDone (mode.Work workers) (draft_tree set) part.now)
+    ensures { WritesWithEnd (IsPartDone (mode.Work workers) (draft_tree set) part.now)
         (K.has_failed sink.new) (K.taken sink.old) (K.taken sink.new) result }
 {
     match assess(rt, set, &mut kept.found)? {

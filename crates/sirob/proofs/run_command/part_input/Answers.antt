@@ -1,10 +1,9 @@
-use Rattle.std.proofs.Common.{◌≡◌, ◌∙◌, Err, false, true, refl, ap, rules, sym, subst}
+use Rattle.std.proofs.Common.{◌≡◌, ◌∙◌, false, true, refl, ap, rules, sym, subst}
 use Rattle.std.proofs.lemmas.Result.{err_from_is_err_and}
 use Rattle.prog_tree.specs.Tree.{draft_tree}
-use Rattle.si_engine.specs.Writing.{WritesOr}
 use Rattle.sirob.specs.declared.command_line.Mode.{Mode}
 use Rattle.sirob.specs.declared.command_line.Mode.TheVariants.{Verify, Run, Audit}
-use Rattle.sirob.specs.Stops.{IsInputDone, write_lost}
+use Rattle.sirob.specs.Stops.{IsInputDone, WritesWithEnd}
 use Rattle.sirob.proofs.StopLaws.{input_stopped, stops_at_once, fault_up_to_text, done_of_part}
 use Rattle.sirob.proofs.run_command.part_input.Goals as goal
 
@@ -22,7 +21,7 @@ pub returns-in-Verify : goal.returns-in-Verify
 returns-in-Verify g c =
     let input = c.args.input.now in
     let sink = c.verify_part.new.sink in
-    subst (λ (m : Mode). WritesOr (Err write_lost) (IsInputDone m input) (g.K.Sink.has_failed sink) (g.K.Sink.taken c.args.sink.now) (g.K.Sink.taken sink) c.verify_part.result) (sym c.in-Verify.is)
+    subst (λ (m : Mode). WritesWithEnd (IsInputDone m input) (g.K.Sink.has_failed sink) (g.K.Sink.taken c.args.sink.now) (g.K.Sink.taken sink) c.verify_part.result) (sym c.in-Verify.is)
     (done_of_part Verify input (draft_tree c.in_ok-set.field-0.set) c.in_ok-set.field-0.part.now _ _ _ _ refl c.in_ok-set.ensures.ok c.verify_part.ensures)
 
 pub returns-in-Run-false : goal.returns-in-Run-false
@@ -30,7 +29,7 @@ returns-in-Run-false g c =
     let flag : c.in-Run-false.robust ≡ false = search rules in
     let input = c.args.input.now in
     let sink = c.run_part.new.sink in
-    subst (λ (m : Mode). WritesOr (Err write_lost) (IsInputDone m input) (g.K.Sink.has_failed sink) (g.K.Sink.taken c.args.sink.now) (g.K.Sink.taken sink) c.run_part.result) (sym (c.in-Run-false.is ∙ ap Run flag))
+    subst (λ (m : Mode). WritesWithEnd (IsInputDone m input) (g.K.Sink.has_failed sink) (g.K.Sink.taken c.args.sink.now) (g.K.Sink.taken sink) c.run_part.result) (sym (c.in-Run-false.is ∙ ap Run flag))
     (done_of_part (Run false) input (draft_tree c.in_ok-set.field-0.set) c.in_ok-set.field-0.part.now _ _ _ _ refl c.in_ok-set.ensures.ok c.run_part.ensures)
 
 pub returns-in-Run-true : goal.returns-in-Run-true
@@ -38,12 +37,12 @@ returns-in-Run-true g c =
     let flag : c.in-Run-true.robust ≡ true = search rules in
     let input = c.args.input.now in
     let sink = c.run_robust_part.new.sink in
-    subst (λ (m : Mode). WritesOr (Err write_lost) (IsInputDone m input) (g.K.Sink.has_failed sink) (g.K.Sink.taken c.args.sink.now) (g.K.Sink.taken sink) c.run_robust_part.result) (sym (c.in-Run-true.is ∙ ap Run flag))
+    subst (λ (m : Mode). WritesWithEnd (IsInputDone m input) (g.K.Sink.has_failed sink) (g.K.Sink.taken c.args.sink.now) (g.K.Sink.taken sink) c.run_robust_part.result) (sym (c.in-Run-true.is ∙ ap Run flag))
     (done_of_part (Run true) input (draft_tree c.in_ok-set.field-0.set) c.in_ok-set.field-0.part.now _ _ _ _ refl c.in_ok-set.ensures.ok c.run_robust_part.ensures)
 
 pub returns-in-Audit : goal.returns-in-Audit
 returns-in-Audit g c =
     let input = c.args.input.now in
     let sink = c.audit_part.new.sink in
-    subst (λ (m : Mode). WritesOr (Err write_lost) (IsInputDone m input) (g.K.Sink.has_failed sink) (g.K.Sink.taken c.args.sink.now) (g.K.Sink.taken sink) c.audit_part.result) (sym c.in-Audit.is)
+    subst (λ (m : Mode). WritesWithEnd (IsInputDone m input) (g.K.Sink.has_failed sink) (g.K.Sink.taken c.args.sink.now) (g.K.Sink.taken sink) c.audit_part.result) (sym c.in-Audit.is)
     (done_of_part Audit input (draft_tree c.in_ok-set.field-0.set) c.in_ok-set.field-0.part.now _ _ _ _ refl c.in_ok-set.ensures.ok c.audit_part.ensures)
