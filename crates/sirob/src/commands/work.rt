@@ -21,6 +21,7 @@ use robust_cert::RobustSet;
 use si_engine::{ItemList, Sink, push_rows, read_lines};
 use si_workers::{Finished, JobList, JobOutcome, Way, run_jobs};
 use std::alloc::{AllocError, Global};
+use std::mem;
 use std::rt::Clock;
 use std::sync::Wait;
 use std::thread::Threads;
@@ -97,6 +98,9 @@ fn work_verified<R: AllocGlobal + Eprint + Clock + Watched + Threads + Wait + Sy
         &gate,
     )?;
     let text = work_text(alloc, outcomes.as_slice(), &book)?;
+    // The process ends behind the work: the system takes the memory of both back as a whole.
+    mem::forget(book);
+    mem::forget(jobs);
     Ok(WorkAnswer { text, outcomes })
 }
 
