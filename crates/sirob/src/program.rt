@@ -7,8 +7,9 @@ ghost use Rattle.sirob.specs.Program.{is_text, NameNoMode, IsModeless, IsWordles
 ghost use Rattle.si_engine.specs.Writing.{IsJust};
 
 use crate::command_line::{Mode, read_words};
+use crate::lines::{MEMORY_LINE, write_last};
 use crate::progress::Watched;
-use crate::run_command::{MEMORY_LINE, run_command, write_last};
+use crate::run_command::run_command;
 use crate::run_work::run_work;
 use crate::status::Status;
 use clap::Error;

@@ -1,12 +1,10 @@
 //! Carries out what the words ask for, from a source to a sink.
-ghost use Rattle.std.specs.Prelude.{◌≡◌, ◌≤◌, ◌+◌, false, Err, length};
+ghost use Rattle.std.specs.Prelude.{◌≡◌, ◌≤◌, ◌+◌, false, length};
 ghost use Rattle.si_engine.specs.Limits.{input_limit};
-ghost use Rattle.si_engine.specs.Writing.{IsJust};
-ghost use Rattle.sirob.specs.FaultLines.{is_memory};
 ghost use Rattle.sirob.specs.Output.{is_work, parts_wanted, IsReply, WritesWithStatus};
-ghost use Rattle.sirob.specs.Stops.{IsInputDone, IsSourceDone, Ends, WritesWithEnd};
+ghost use Rattle.sirob.specs.Stops.{IsInputDone, IsSourceDone, WritesWithEnd};
 
-use crate::command_fault::{CommandFault, fault_line};
+use crate::command_fault::CommandFault;
 use crate::command_line::Mode;
 use crate::commands::audit::audit_part;
 use crate::commands::certify::certify_input;
@@ -15,15 +13,12 @@ use crate::commands::repair::repair_input;
 use crate::commands::run::{run_part, run_robust_part};
 use crate::commands::verify::verify_part;
 use crate::input::{ReadSet, read_text_and_part};
+use crate::lines::write_end;
 use crate::sentences::kept::Kept;
 use crate::sentences::words::explain;
 use crate::status::Status;
-use si_engine::{MAX_READS, Sink, Source, read_whole, write_or};
-use std::alloc::Global;
+use si_engine::{MAX_READS, Sink, Source, read_whole};
 use std::thread::Threads;
-
-/// The line of want of memory.
-pub const MEMORY_LINE: &[u8] = b"fault memory\n";
 
 // Does with the second part of an input what the mode asks for.
 fn part_input<K: Sink>(
@@ -92,44 +87,6 @@ fn answer_source<S: Source, K: Sink>(
     let ended = answer_input(rt, mode, &input, sink, kept);
     kept.input = input;
     ended
-}
-
-/// Writes the last bytes; the status is the one given, or that of a failed write.
-pub fn write_last<K: Sink>(sink: &mut K, bytes: &[u8], status: Status) -> Status
-    ensures { WritesWithStatus (IsJust bytes.now status)
-        (K.has_failed sink.new) (K.taken sink.old) (K.taken sink.new) result }
-{
-    write_or(sink, bytes, status, Status::Faulty)
-}
-
-// Writes the line of a fault, alone.
-fn write_fault<K: Sink>(alloc: Global, sink: &mut K, fault: CommandFault) -> Status
-    ensures { WritesWithStatus (Ends (Err fault))
-        (K.has_failed sink.new) (K.taken sink.old) (K.taken sink.new) result }
-{
-    if fault.is_memory() {
-        return write_last(sink, MEMORY_LINE, Status::Memory);
-    }
-    match fault_line(alloc, fault) {
-        Ok(line) => write_last(sink, line.as_bytes(), Status::Faulty),
-        Err(_) => write_last(sink, MEMORY_LINE, Status::Memory),
-    }
-}
-
-/// Writes what stands behind the lines of a command: nothing, or the line of the fault that
-/// stopped it.
-pub fn write_end<K: Sink>(
-    alloc: Global,
-    sink: &mut K,
-    ended: Result<Status, CommandFault>,
-) -> Status
-    ensures { WritesWithStatus (Ends ended)
-        (K.has_failed sink.new) (K.taken sink.old) (K.taken sink.new) result }
-{
-    match ended {
-        Ok(status) => write_last(sink, b"", status),
-        Err(fault) => write_fault(alloc, sink, fault),
-    }
 }
 
 /// Reads all of a source, does what the mode asks for, which is no work, and writes the answer to a

@@ -2,7 +2,7 @@ use Rattle.std.proofs.Common.{[], sym, subst}
 use Rattle.si_engine.proofs.RunLaws.{writes_just}
 use Rattle.sirob.specs.declared.status.Status.TheVariants as status
 use Rattle.sirob.specs.Stops.{Ends, well}
-use Rattle.sirob.proofs.run_command.write_end.Goals as goal
+use Rattle.sirob.proofs.lines.write_end.Goals as goal
 
 pub returns-in-Ok : goal.returns-in-Ok
 returns-in-Ok g c =

@@ -3,7 +3,7 @@ use Rattle.si_engine.proofs.RunLaws.{writes_just}
 use Rattle.sirob.specs.declared.status.Status.TheVariants as status
 use Rattle.sirob.specs.Output.{memory_line}
 use Rattle.sirob.specs.Stops.{Ends, in_fault, in_memory}
-use Rattle.sirob.proofs.run_command.write_fault.Goals as goal
+use Rattle.sirob.proofs.lines.write_fault.Goals as goal
 
 pub returns-then-is_memory : goal.returns-then-is_memory
 returns-then-is_memory g c =
