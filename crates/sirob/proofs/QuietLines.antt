@@ -1,6 +1,7 @@
 -- A text without the byte `%` has one part.
-use Rattle.std.proofs.Common.{◌≡◌, ◌≢◌, ◌∙◌, ◌<◌, ◌++◌, ℕ, Bool, true, false, List, [], ◌∷◌, suc, length, get_or, nat_eq, ◌==◌, if◌then◌else◌, refl, ap, arith}
+use Rattle.std.proofs.Common.{◌≡◌, ◌≢◌, ◌∙◌, ◌<◌, ℕ, Bool, true, false, List, [], ◌∷◌, suc, length, get_or, nat_eq, ◌==◌, if◌then◌else◌, refl, ap, arith}
 use Rattle.std.proofs.lemmas.Bool.Decides.{nat_tests}
+use Rattle.std.specs.List.{concat}
 use Rattle.run_words.specs.PartPointing.{begins_separator}
 use Rattle.sirob.specs.Parts.{before_lines, full_lines_of, parts_of, parts_in, before_parts}
 
@@ -12,11 +13,6 @@ IsWithoutPercent bytes = (k : ℕ) → k < length bytes → get_or bytes k 0 ≢
 abbrev AreQuiet : List (List ℕ) → Type 0
 AreQuiet [] = Unit {0}
 AreQuiet (line ∷ lines) = (begins_separator line ≡ false) × AreQuiet lines
-
--- the lines one behind the other
-abbrev joined : List (List ℕ) → List ℕ
-joined [] = []
-joined (line ∷ lines) = line ++ joined lines
 
 begins_otherwise : (byte : ℕ) (line : List ℕ) → byte ≢ 37 → begins_separator (byte ∷ line) ≡ false
 begins_otherwise byte line apart =
@@ -36,16 +32,16 @@ quiet (byte ∷ bytes) none = go (byte == 10) (full_lines_of bytes) (quiet bytes
     go false [] are = (first [], tt)
     go false (line ∷ lines) are = (first line, are.1)
 
-whole : (bytes : List ℕ) → joined (full_lines_of bytes) ≡ bytes
+whole : (bytes : List ℕ) → concat (full_lines_of bytes) ≡ bytes
 whole [] = refl
 whole (byte ∷ bytes) = go (byte == 10) (full_lines_of bytes) (whole bytes)
   where
-    go : (feed : Bool) (lines : List (List ℕ)) → joined lines ≡ bytes → joined (if feed then (byte ∷ []) ∷ lines else before_lines byte lines) ≡ byte ∷ bytes
+    go : (feed : Bool) (lines : List (List ℕ)) → concat lines ≡ bytes → concat (if feed then (byte ∷ []) ∷ lines else before_lines byte lines) ≡ byte ∷ bytes
     go true lines is = ap (λ (bs : List ℕ). byte ∷ bs) is
     go false [] is = ap (λ (bs : List ℕ). byte ∷ bs) is
     go false (line ∷ lines) is = ap (λ (bs : List ℕ). byte ∷ bs) is
 
-one_part : (lines : List (List ℕ)) → AreQuiet lines → parts_in lines ≡ joined lines ∷ []
+one_part : (lines : List (List ℕ)) → AreQuiet lines → parts_in lines ≡ concat lines ∷ []
 one_part [] are = refl
 one_part (line ∷ lines) are =
     ap (λ b. if b then [] ∷ parts_in lines else before_parts line (parts_in lines)) are.0

@@ -1,6 +1,7 @@
 -- Laws on how a command stops, and on what is then written.
-use Rattle.std.proofs.Common.{◌≡◌, ◌⊎◌, inl, inr, ◌≤◌, ◌<◌, ◌-◌, ◌^◌, ◌+◌, ◌++◌, ℕ, Bool, true, false, List, [], ◌∷◌, length, map, take, drop, take-append-drop, take_at, append_assoc, append-nil, zero-add, suc-add, arith, Option, Some, None, Result, Ok, Err, IfOk, IfSome, refl, sym, subst, ap, ◌∙◌}
+use Rattle.std.proofs.Common.{◌≡◌, ◌⊎◌, inl, inr, ◌≤◌, ◌<◌, ◌-◌, ◌^◌, ◌+◌, ◌++◌, ℕ, Bool, true, false, List, [], ◌∷◌, length, map, take, drop, take-append-drop, take_at, append_assoc, append-nil, arith, Option, Some, None, Result, Ok, Err, IfOk, IfSome, refl, sym, subst, ap, ◌∙◌}
 use Rattle.std.proofs.KnownBytes.{Appends-nil, Appends-trans}
+use Rattle.std.proofs.Math.Seq.{take-append-add}
 use Rattle.std.proofs.lemmas.List.FromFn.{length-map-range_with_len}
 use Rattle.std.specs.Io.KnownBytes.{Appends}
 use Rattle.prog_tree.specs.declared.program.Draft.{Draft}
@@ -260,15 +261,10 @@ front_before old new first second (n, appends) =
     let same : take (length front) (first ++ second) ≡ front = ap (take (length front)) (sym parted) ∙ take_at front (drop n first ++ second) (length front) refl in
     (length front, subst (Appends old new) (sym same) appends)
 
--- the first bytes past others
-take_past : (first second : List ℕ) (n : ℕ) → take (length first + n) (first ++ second) ≡ first ++ take n second
-take_past [] second n = ap (λ (k : ℕ). take k second) (zero-add n)
-take_past (x ∷ xs) second n = ap (λ (k : ℕ). take k (x ∷ (xs ++ second))) (suc-add (length xs) n) ∙ ap (λ (l : List ℕ). x ∷ l) (take_past xs second n)
-
 -- bytes, and then some first of others
 pub front_behind : (old mid new : Option (List ℕ)) (first second : List ℕ) → Appends old mid first → AppendsFront mid new second → AppendsFront old new (first ++ second)
 front_behind old mid new first second appends (n, more) =
-    (length first + n, subst (Appends old new) (sym (take_past first second n)) (Appends-trans old mid new first (take n second) appends more))
+    (length first + n, subst (Appends old new) (sym (take-append-add first second n)) (Appends-trans old mid new first (take n second) appends more))
 
 -- ---- what a command replies
 
