@@ -14,12 +14,12 @@ split_fault_text MissingPart = codes "I1"
 split_fault_text ExtraPart = codes "I2"
 
 -- what is told of a fault of workers: all but the outcomes and the book
-abbrev pub told_of : WorkFault → WorkerFault
-told_of work.Workers = told.Workers
-told_of work.TooManyJobs = told.TooManyJobs
-told_of (work.NoThread started outcomes book) = told.NoThread started
-told_of (work.Broken job outcome book) = told.Broken job
-told_of (work.Memory book) = told.Memory
+abbrev pub worker_fault_of : WorkFault → WorkerFault
+worker_fault_of work.Workers = told.Workers
+worker_fault_of work.TooManyJobs = told.TooManyJobs
+worker_fault_of (work.NoThread started outcomes book) = told.NoThread started
+worker_fault_of (work.Broken job outcome book) = told.Broken job
+worker_fault_of (work.Memory book) = told.Memory
 
 -- a code, and the job from 0
 abbrev pub worker_fault_text : WorkerFault → List ℕ

@@ -60,7 +60,7 @@ use Rattle.sirob.specs.declared.status.Status.{Status}
 use Rattle.sirob.specs.declared.status.Status.TheVariants.{Done, Unserializable, Faulty, Memory}
 use Rattle.sirob.specs.declared.worker_fault.WorkerFault.{WorkerFault}
 use Rattle.sirob.specs.FaultLines.{fault_line, is_memory}
-use Rattle.sirob.specs.Faults.{told_of}
+use Rattle.sirob.specs.Faults.{worker_fault_of}
 use Rattle.sirob.specs.Parts.{parts_of}
 use Rattle.sirob.specs.Refusal.{refusal_text}
 use Rattle.sirob.specs.Status.{status_of}
@@ -208,7 +208,7 @@ pub record IsUndone (workers : ℕ) (set : DraftTree) (part : List ℕ) (told : 
   pub read : jobs_of set part ≡ Ok list
   pub f : WorkFault
   pub wrong : IsWorkFault (assigned workers set list.rows) list.items f
-  pub named : told_of f ≡ told
+  pub named : worker_fault_of f ≡ told
 
 -- the first fault of a set with a second part: of the analysis that comes before its lines; of its lines, of its
 -- records as a history, of its certificate, or of the workers

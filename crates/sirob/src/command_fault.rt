@@ -162,10 +162,10 @@ impl From<AuditFault> for CommandFault {
 
 impl From<WorkFault<'_>> for CommandFault {
     ghost use Rattle.std.specs.Prelude.{◌≡◌};
-    ghost use Rattle.sirob.specs.Faults.{told_of};
+    ghost use Rattle.sirob.specs.Faults.{worker_fault_of};
     ghost use Rattle.sirob.specs.declared.command_fault.CommandFault.TheVariants.{Work};
 
-    ghost from_gives = { λ fault e. e ≡ Work (told_of fault) };
+    ghost from_gives = { λ fault e. e ≡ Work (worker_fault_of fault) };
 
     fn from(fault: WorkFault<'_>) -> Self {
         CommandFault::Work(WorkerFault::of(&fault))

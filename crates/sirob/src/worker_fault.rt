@@ -1,6 +1,6 @@
 //! What keeps workers from doing jobs as they have to, and the text that says so.
 ghost use Rattle.std.specs.Prelude.{◌≡◌};
-ghost use Rattle.sirob.specs.Faults.{told_of};
+ghost use Rattle.sirob.specs.Faults.{worker_fault_of};
 
 use si_workers::WorkFault;
 use std::fmt;
@@ -21,7 +21,7 @@ pub enum WorkerFault {
 impl WorkerFault {
     /// What is told of this fault.
     pub fn of(fault: &WorkFault<'_>) -> Self
-        ensures { result ≡ told_of fault.now }
+        ensures { result ≡ worker_fault_of fault.now }
     {
         match fault {
             WorkFault::Workers => WorkerFault::Workers,
