@@ -18,7 +18,7 @@ use Rattle.sirob.specs.declared.command_line.Mode.TheVariants.{Certify}
 use Rattle.sirob.specs.declared.status.Status.{Status}
 use Rattle.sirob.specs.declared.status.Status.TheVariants as status
 use Rattle.sirob.specs.FaultLines.{is_memory}
-use Rattle.sirob.specs.Output.{AsksFew, IsChecked}
+use Rattle.sirob.specs.Inputs.{AsksFew, IsChecked}
 use Rattle.sirob.specs.Refusal.{refusal_text}
 use Rattle.sirob.specs.Stops.{IsInputDone, IsStop, IsTextOrStop, WritesWithEnd, write_lost}
 use Rattle.sirob.proofs.StopLaws.{front_before, front_behind, stops_at_once}

@@ -7,7 +7,7 @@ use Rattle.repair_laws.specs.declared.plan.Pair.{Pair}
 use Rattle.repair_laws.specs.Plans.{IsPlan}
 use Rattle.repair_laws.specs.Meaning.{KeepsAllMeaning}
 use Rattle.si_repair.specs.Repairing.{StopsNowhere}
-use Rattle.sirob.specs.Output.{AsksFew, IsRepairBy, IsRepaired, StopsRepair}
+use Rattle.sirob.specs.Inputs.{AsksFew, IsRepairBy, IsRepaired, StopsRepair}
 
 -- what a plan makes of the set by one of the two ways, where that way is asked for
 pub repaired_by : (asked promote : Bool) (set new : DraftTree) (plan : List Pair) → asked ≡ promote → AsksFew set → IsPlan (paths_of set) plan

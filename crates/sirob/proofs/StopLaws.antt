@@ -38,7 +38,9 @@ use Rattle.sirob.specs.declared.command_fault.CommandFault.TheVariants as fault
 use Rattle.sirob.specs.declared.status.Status.{Status}
 use Rattle.sirob.specs.declared.status.Status.TheVariants as status
 use Rattle.sirob.specs.FaultLines.{fault_line, is_memory}
-use Rattle.sirob.specs.Output.{parts_wanted, Gives, IsAnalysedFor, IsRobust, GivesPart, GivesFirstPart, MayEnd, MayRun, IsAudited, IsChecked, IsFaultOf, IsFaultOfInput, IsFaultOfPart, StopsBehind, at_once, behind_lines, memory_line, IsAnswer, done, at_fault, stopped, IsUnread, IsReply, WritesWithStatus}
+use Rattle.sirob.specs.InputFaults.{IsAnalysedFor, IsFaultOf, IsFaultOfInput, IsFaultOfPart}
+use Rattle.sirob.specs.Inputs.{parts_wanted, IsRobust, MayRun, IsAudited, IsChecked}
+use Rattle.sirob.specs.Output.{Gives, GivesPart, GivesFirstPart, MayEnd, StopsBehind, at_once, behind_lines, memory_line, IsAnswer, done, at_fault, stopped, IsUnread, IsReply, WritesWithStatus}
 use Rattle.sirob.specs.Output as u
 use Rattle.sirob.specs.Status.{status_of}
 use Rattle.sirob.specs.Stops.{IsUnanalysedBy, IsUnrepairedBy, IsStop, IsReadFault, Ends, well, in_fault, in_memory, IsSetAndPart, IsPartStop, IsPartDone, IsFaultOfJobs, IsInputDone, IsSourceDone, WritesWithEnd, as_command, write_lost}

@@ -1,6 +1,8 @@
 pub mod CommandLine
 pub mod FaultLines
 pub mod Faults
+pub mod InputFaults
+pub mod Inputs
 pub mod Output
 pub mod Parts
 pub mod Program

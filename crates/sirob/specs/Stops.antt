@@ -22,7 +22,9 @@ use Rattle.sirob.specs.declared.command_fault.CommandFault.TheVariants as fault
 use Rattle.sirob.specs.declared.status.Status.{Status}
 use Rattle.sirob.specs.declared.status.Status.TheVariants.{Unserializable, Faulty, Memory}
 use Rattle.sirob.specs.FaultLines.{fault_line, is_memory}
-use Rattle.sirob.specs.Output.{HasPart, Gives, GivesPart, GivesFirstPart, GivesRefusal, IsRobust, IsUnanalysed, IsUnrepaired, IsFaultOf, IsFaultOfPart, StopsBehind, memory_line}
+use Rattle.sirob.specs.InputFaults.{IsUnanalysed, IsFaultOf, IsFaultOfPart}
+use Rattle.sirob.specs.Inputs.{HasPart, IsRobust, IsUnrepaired}
+use Rattle.sirob.specs.Output.{Gives, GivesPart, GivesFirstPart, GivesRefusal, StopsBehind, memory_line}
 use Rattle.sirob.specs.Status.{status_of}
 
 -- the sink failed

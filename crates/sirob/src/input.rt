@@ -3,7 +3,8 @@ ghost use Rattle.std.specs.Prelude.{◌≡◌, ◌≤◌, false, length, IfOk, I
 ghost use Rattle.prog_tree.specs.Tree.{draft_tree};
 ghost use Rattle.sirob.specs.FaultLines.{is_memory};
 ghost use Rattle.si_engine.specs.Limits.{input_limit};
-ghost use Rattle.sirob.specs.Output.{IsSoundText, IsChecked, IsFaultOfInput, IsFaultOfText};
+ghost use Rattle.sirob.specs.InputFaults.{IsFaultOfInput, IsFaultOfText};
+ghost use Rattle.sirob.specs.Inputs.{IsSoundText, IsChecked};
 ghost use Rattle.sirob.specs.Stops.{IsSetAndPart};
 
 use crate::command_fault::CommandFault;

@@ -1,7 +1,8 @@
 //! Carries out what the words ask for, from a source to a sink.
 ghost use Rattle.std.specs.Prelude.{◌≡◌, ◌≤◌, ◌+◌, false, length};
 ghost use Rattle.si_engine.specs.Limits.{input_limit};
-ghost use Rattle.sirob.specs.Output.{is_work, parts_wanted, IsReply, WritesWithStatus};
+ghost use Rattle.sirob.specs.Inputs.{is_work, parts_wanted};
+ghost use Rattle.sirob.specs.Output.{IsReply, WritesWithStatus};
 ghost use Rattle.sirob.specs.Stops.{IsInputDone, IsSourceDone, WritesWithEnd};
 
 use crate::command_fault::CommandFault;

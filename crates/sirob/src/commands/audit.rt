@@ -4,7 +4,7 @@ ghost use Rattle.prog_tree.specs.Tree.{draft_tree};
 ghost use Rattle.history_book.specs.TrueBook.{IsTrueBook};
 ghost use Rattle.si_engine.specs.Records.{records_of};
 ghost use Rattle.sirob.specs.FaultLines.{is_memory};
-ghost use Rattle.sirob.specs.Output.{IsFaultOfPart};
+ghost use Rattle.sirob.specs.InputFaults.{IsFaultOfPart};
 ghost use Rattle.sirob.specs.Stops.{IsPartDone, WritesWithEnd};
 ghost use Rattle.sirob.specs.declared.command_line.Mode.TheVariants as mode;
 

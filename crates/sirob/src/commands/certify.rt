@@ -6,7 +6,7 @@ ghost use Rattle.robust_cert.specs.Json.{certificate_text};
 ghost use Rattle.si_engine.specs.Limits.{input_limit};
 ghost use Rattle.si_repair.specs.Findings.{IsRightFinding};
 ghost use Rattle.sirob.specs.FaultLines.{is_memory};
-ghost use Rattle.sirob.specs.Output.{AsksFew, IsChecked};
+ghost use Rattle.sirob.specs.Inputs.{AsksFew, IsChecked};
 ghost use Rattle.sirob.specs.Refusal.{refusal_text};
 ghost use Rattle.sirob.specs.Stops.{IsStop, IsInputDone, IsTextOrStop, IsUnanalysedBy, WritesWithEnd};
 ghost use Rattle.sirob.specs.declared.command_line.Mode.TheVariants as mode;

@@ -3,7 +3,8 @@ ghost use Rattle.std.specs.Prelude.{◌≡◌, ◌≤◌, false, [], length, IfO
 ghost use Rattle.prog_tree.specs.Tree.{draft_tree};
 ghost use Rattle.si_engine.specs.Limits.{input_limit};
 ghost use Rattle.sirob.specs.FaultLines.{is_memory};
-ghost use Rattle.sirob.specs.Output.{Gives, IsRepaired};
+ghost use Rattle.sirob.specs.Inputs.{IsRepaired};
+ghost use Rattle.sirob.specs.Output.{Gives};
 ghost use Rattle.sirob.specs.Stops.{IsStop, IsInputDone, IsUnrepairedBy, WritesWithEnd};
 ghost use Rattle.sirob.specs.declared.command_line.Mode.TheVariants as mode;
 ghost use Rattle.sirob.specs.declared.status.Status.TheVariants as status;

@@ -2,7 +2,7 @@
 ghost use Rattle.std.specs.Prelude.{◌≡◌, ◌≤◌, length, false, true};
 ghost use Rattle.prog_tree.specs.Tree.{draft_tree};
 ghost use Rattle.si_engine.specs.Limits.{input_limit};
-ghost use Rattle.sirob.specs.Output.{IsRobust};
+ghost use Rattle.sirob.specs.Inputs.{IsRobust};
 ghost use Rattle.sirob.specs.Stops.{IsPartDone, as_command, WritesWithEnd};
 ghost use Rattle.sirob.specs.declared.command_line.Mode.TheVariants as mode;
 

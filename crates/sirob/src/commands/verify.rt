@@ -2,7 +2,8 @@
 ghost use Rattle.std.specs.Prelude.{◌≡◌, false, IfErr, OnOk};
 ghost use Rattle.prog_tree.specs.Tree.{draft_tree};
 ghost use Rattle.sirob.specs.FaultLines.{is_memory};
-ghost use Rattle.sirob.specs.Output.{IsFaultOfPart, ShowsRobust};
+ghost use Rattle.sirob.specs.InputFaults.{IsFaultOfPart};
+ghost use Rattle.sirob.specs.Output.{ShowsRobust};
 ghost use Rattle.sirob.specs.Stops.{IsPartDone, WritesWithEnd};
 ghost use Rattle.sirob.specs.declared.command_line.Mode.TheVariants as mode;
 

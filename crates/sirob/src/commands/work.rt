@@ -3,7 +3,9 @@ ghost use Rattle.std.specs.Prelude.{◌≡◌, false, Ok, IfOk, IfErr, string_by
 ghost use Rattle.prog_tree.specs.Tree.{draft_tree};
 ghost use Rattle.si_workers.specs.JobLines.{jobs_of};
 ghost use Rattle.sirob.specs.FaultLines.{is_memory};
-ghost use Rattle.sirob.specs.Output.{IsRobust, IsFaultOfPart, GivesWork};
+ghost use Rattle.sirob.specs.InputFaults.{IsFaultOfPart};
+ghost use Rattle.sirob.specs.Inputs.{IsRobust};
+ghost use Rattle.sirob.specs.Output.{GivesWork};
 ghost use Rattle.sirob.specs.Stops.{IsPartDone, IsFaultOfJobs, WritesWithEnd};
 ghost use Rattle.sirob.specs.Work.{ends_in, counts_text, work_text};
 ghost use Rattle.sirob.specs.declared.command_line.Mode.TheVariants as mode;

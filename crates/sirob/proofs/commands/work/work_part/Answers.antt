@@ -6,7 +6,8 @@ use Rattle.si_engine.proofs.RunLaws.{writes_just}
 use Rattle.sirob.specs.declared.command_line.Mode.TheVariants.{Work}
 use Rattle.sirob.specs.declared.commands.robust.Verified.{Verified}
 use Rattle.sirob.specs.declared.status.Status.TheVariants as status
-use Rattle.sirob.specs.Output.{GivesRefusal, GivesWork, IsFaultOfPart}
+use Rattle.sirob.specs.InputFaults.{IsFaultOfPart}
+use Rattle.sirob.specs.Output.{GivesRefusal, GivesWork}
 use Rattle.sirob.specs.Stops.{IsPartDone, IsVerified, write_lost}
 use Rattle.sirob.proofs.StopLaws.{part_stopped, part_unanalysed}
 use Rattle.sirob.proofs.commands.work.work_part.Goals as goal
