@@ -23,11 +23,11 @@ spaced_from gap [] = []
 spaced_from gap (byte ∷ bytes) = spaced_byte gap byte ++ spaced_from (is_ascii_whitespace byte) bytes
 
 -- bytes with a space in place of each run of blanks, and none at the end
-abbrev pub spaced : List ℕ → List ℕ
-spaced bytes = spaced_from false bytes
+abbrev pub with_single_spaces : List ℕ → List ℕ
+with_single_spaces bytes = spaced_from false bytes
 
 abbrev pub in_one_line : List ℕ → List ℕ
-in_one_line bytes = map visible (spaced bytes)
+in_one_line bytes = map visible (with_single_spaces bytes)
 
 -- ---- statements
 

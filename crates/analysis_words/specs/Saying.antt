@@ -1,12 +1,12 @@
 -- What the words of a fault of a certificate have to say.
-use Rattle.std.specs.Prelude.{ℕ, ◌≡◌, ◌==◌, Bool, if◌then◌else◌, List, [], ◌∷◌, ◌++◌, Option, Some, None, codes, length, map, option_map, unwrap_or, slice_get, zip}
+use Rattle.std.specs.Prelude.{ℕ, ◌≡◌, ◌==◌, Bool, if◌then◌else◌, List, [], ◌∷◌, ◌++◌, Option, Some, None, codes, length, map, option_map, slice_get, slice_index_or, zip}
 use Rattle.std.specs.Fmt.{decimal}
 use Rattle.std.specs.List.{prefix_len}
 use Rattle.std.specs.Option.{option_map_or}
 use Rattle.text_places.specs.Listing.{listed}
 use Rattle.prog_check.specs.declared.path.Path.{Path}
 use Rattle.prog_paths.specs.Limits.{most_questions}
-use Rattle.robust_cert.specs.Accepted.{body_size}
+use Rattle.robust_cert.specs.Accepted.{body_size, level_of}
 use Rattle.robust_cert.specs.Reading.{IsTextOf}
 use Rattle.robust_cert.specs.Sharing.{Entry}
 use Rattle.robust_cert.specs.declared.certificate.Certificate.{Certificate}
@@ -23,10 +23,7 @@ IsNoCertificate bytes = (certificate : Certificate) → ¬ IsTextOf certificate 
 
 -- the number of a node in a list; one that has none counts as 0
 abbrev pub number_at : List ℕ → (node : ℕ) → ℕ
-number_at numbers node = unwrap_or (slice_get numbers node) 0
-
-abbrev pub level_of : Certificate → (node : ℕ) → ℕ
-level_of certificate node = number_at certificate.levels node
+number_at numbers node = slice_index_or numbers node 0
 
 -- a level and the node that has it, as ``2 of `Pay:t` ``
 abbrev pub level_text : Sight → Certificate → (node : ℕ) → List ℕ

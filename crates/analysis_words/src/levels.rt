@@ -1,7 +1,8 @@
 //! The numbers that a certificate tells of its nodes.
 ghost use Rattle.std.specs.Prelude.{◌≡◌, IfOk, string_bytes};
+ghost use Rattle.robust_cert.specs.Accepted.{level_of};
 ghost use Rattle.analysis_words.specs.Nodes.{seen};
-ghost use Rattle.analysis_words.specs.Saying.{level_list, level_of, level_text, number_at};
+ghost use Rattle.analysis_words.specs.Saying.{level_list, level_text, number_at};
 
 use crate::shown::{Shown, node_name};
 use robust_cert::Certificate;

@@ -2,7 +2,7 @@
 ghost use Rattle.std.specs.Prelude.{◌≡◌, ◌≤◌, ◌++◌, IfOk, OnOk, length, string_bytes};
 ghost use Rattle.std.specs.List.{before_first, prefix_len};
 ghost use Rattle.text_places.specs.Tokens.{is_before_key};
-ghost use Rattle.analysis_words.specs.Quoting.{cells_of, ends_statement, gap_before, in_one_line, is_before_bracket, is_before_end, quoted_cells, quoted_statement, spaced, spaced_byte, to_bracket};
+ghost use Rattle.analysis_words.specs.Quoting.{cells_of, ends_statement, gap_before, in_one_line, is_before_bracket, is_before_end, quoted_cells, quoted_statement, spaced_byte, to_bracket, with_single_spaces};
 
 use crate::limits::MAX_QUOTED;
 use std::alloc::{AllocError, Global};
@@ -32,8 +32,8 @@ fn push_spaced(line: &mut Vec<u8>, gap: bool, byte: u8) -> Result<(), AllocError
 }
 
 // The bytes with a space in place of each run of blanks.
-fn spaced(alloc: Global, bytes: &[u8]) -> Result<Vec<u8>, AllocError>
-    ensures { IfOk result (λ line. line.items ≡ spaced bytes.now) }
+fn with_single_spaces(alloc: Global, bytes: &[u8]) -> Result<Vec<u8>, AllocError>
+    ensures { IfOk result (λ line. line.items ≡ with_single_spaces bytes.now) }
 {
     let mut line = Vec::new(alloc);
     let mut gap = false;
@@ -48,7 +48,7 @@ fn spaced(alloc: Global, bytes: &[u8]) -> Result<Vec<u8>, AllocError>
 fn in_one_line(alloc: Global, bytes: &[u8]) -> Result<String, AllocError>
     ensures { IfOk result (λ line. string_bytes line ≡ in_one_line bytes.now) }
 {
-    let line = spaced(alloc, bytes)?;
+    let line = with_single_spaces(alloc, bytes)?;
     visible_text(alloc, &line)
 }
 
