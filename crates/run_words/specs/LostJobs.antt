@@ -11,6 +11,7 @@ use Rattle.si_workers.specs.declared.job.JobOutcome.{JobOutcome}
 use Rattle.si_workers.specs.declared.job.Way.{Way}
 use Rattle.si_workers.specs.declared.job.Way.TheVariants.{Aborted, Clashed, Refused}
 use Rattle.si_workers.specs.Ways.{is_in}
+use Rattle.run_words.specs.declared.lost_jobs.ToldJobs.{ToldJobs}
 use Rattle.run_words.specs.EachLine.{TellsEach}
 use Rattle.run_words.specs.InInput.{input_line_text}
 use Rattle.run_words.specs.JobSentences.{IsJobSentence}
@@ -48,6 +49,10 @@ abbrev pub TellsJob :
     DraftTree → List Job → List JobOutcome → (ahead part : List ℕ) → (number : ℕ) → (line : List ℕ) → Type 0
 TellsJob set jobs outcomes ahead part number line =
     (sentence : List ℕ) × IsJobSentence set jobs outcomes number sentence × IsJobLine ahead part number sentence line
+
+-- the same of a list of jobs with what came of each, which is a part of an input
+abbrev pub TellsJobIn : DraftTree → ToldJobs → (number : ℕ) → (line : List ℕ) → Type 0
+TellsJobIn set told = TellsJob set told.jobs.now told.outcomes.now told.part.ahead.now told.part.bytes.now
 
 -- that there are so many more
 abbrev pub more_text : (count : ℕ) → List ℕ

@@ -4,7 +4,7 @@ ghost use Rattle.prog_tree.specs.Tree.{draft_tree};
 ghost use Rattle.text_places.specs.Landmarks.{HasNoJob, IsJobPlace};
 ghost use Rattle.run_words.specs.EachLine.{TellsEach};
 ghost use Rattle.run_words.specs.Limits.{most_told};
-ghost use Rattle.run_words.specs.LostJobs.{is_lost_by, more_text, numbers_lost, place_text, IsJobLine, IsJobText, TellsJob, TellsLosses, TellsLost};
+ghost use Rattle.run_words.specs.LostJobs.{is_lost_by, more_text, numbers_lost, place_text, IsJobLine, IsJobText, TellsJobIn, TellsLosses, TellsLost};
 
 use crate::in_input::{Part, input_line_text};
 use crate::job_reasons::job_sentence;
@@ -110,9 +110,7 @@ fn push_jobs(
     out: &mut String,
 ) -> Result<(), AllocError>
     ensures { OnOk result ((lines : List ℕ)
-        × TellsEach (TellsJob (draft_tree set.now) told.entry.jobs.now
-        told.entry.outcomes.now told.entry.part.ahead.now told.entry.part.bytes.now)
-        numbers.now lines
+        × TellsEach (TellsJobIn (draft_tree set.now) told.entry) numbers.now lines
         × (string_bytes out.new ≡ string_bytes out.old ++ lines)) }
 {
     let mut last = FRONT;
@@ -151,8 +149,7 @@ fn first_lines(
     told: ToldJobs<'_>,
     numbers: &[usize],
 ) -> Result<String, AllocError>
-    ensures { IfOk result (λ lines. TellsEach (TellsJob (draft_tree set.now) told.entry.jobs.now
-        told.entry.outcomes.now told.entry.part.ahead.now told.entry.part.bytes.now)
+    ensures { IfOk result (λ lines. TellsEach (TellsJobIn (draft_tree set.now) told.entry)
         (take most_told numbers.now) (string_bytes lines)) }
 {
     let mut lines = String::new(alloc);
@@ -168,8 +165,7 @@ fn lost_text(
     heading: &str,
     numbers: &[usize],
 ) -> Result<String, AllocError>
-    ensures { IfOk result (λ words. TellsLost (TellsJob (draft_tree set.now) told.entry.jobs.now
-        told.entry.outcomes.now told.entry.part.ahead.now told.entry.part.bytes.now)
+    ensures { IfOk result (λ words. TellsLost (TellsJobIn (draft_tree set.now) told.entry)
         heading.now numbers.now (string_bytes words)) }
 {
     let [_, ..] = numbers else {
@@ -189,8 +185,7 @@ fn jobs_lost(
     way: Way,
     heading: &str,
 ) -> Result<String, AllocError>
-    ensures { IfOk result (λ words. TellsLost (TellsJob (draft_tree set.now) told.entry.jobs.now
-        told.entry.outcomes.now told.entry.part.ahead.now told.entry.part.bytes.now)
+    ensures { IfOk result (λ words. TellsLost (TellsJobIn (draft_tree set.now) told.entry)
         heading.now (numbers_lost way told.entry.outcomes.now) (string_bytes words)) }
 {
     let numbers = numbers_lost(alloc, way, told.outcomes)?;
@@ -204,8 +199,7 @@ pub fn lost_job_words(
     set: &ProgramSet,
     told: ToldJobs<'_>,
 ) -> Result<String, AllocError>
-    ensures { IfOk result (λ words. TellsLosses (TellsJob (draft_tree set.now) told.entry.jobs.now
-        told.entry.outcomes.now told.entry.part.ahead.now told.entry.part.bytes.now)
+    ensures { IfOk result (λ words. TellsLosses (TellsJobIn (draft_tree set.now) told.entry)
         told.entry.outcomes.now (string_bytes words)) }
 {
     let refused = jobs_lost(alloc, set, told, Way::Refused, "jobs that were refused: ")?;
