@@ -6,8 +6,8 @@ abbrev pub most_told : ℕ
 most_told = 8
 
 -- bytes of a word of the input
-abbrev pub most_shown : ℕ
-most_shown = 40
+abbrev pub most_word : ℕ
+most_word = 40
 
 -- arguments of a call
 abbrev pub most_arguments : ℕ

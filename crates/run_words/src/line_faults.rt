@@ -71,10 +71,12 @@ fn wrong_keys(alloc: Global, words: &[&str]) -> Result<String, AllocError> {
         [_, table, ..] => *table,
         _ => "",
     };
-    if words.len() < 6 {
-        return format!(in alloc; "`{table}` has two key columns, and here it is given one key");
+    match words {
+        [_, _, _key, _sign, _value] => format!(in alloc;
+            "`{table}` has two key columns, and here it is given one key"
+        ),
+        _ => format!(in alloc; "`{table}` has one key column, and here it is given two keys"),
     }
-    format!(in alloc; "`{table}` has one key column, and here it is given two keys")
 }
 
 fn late_row(alloc: Global, kind: PartKind) -> Result<String, AllocError> {
