@@ -7,6 +7,8 @@ use Rattle.si_engine.specs.declared.event.Event.TheVariants as event
 use Rattle.si_engine.specs.declared.event.Reply.{Reply}
 use Rattle.si_engine.specs.declared.event.Reply.TheVariants as reply
 use Rattle.run_words.specs.declared.refusals.Refusals.{Refusals}
+use Rattle.run_words.specs.declared.refusals.Refusal.{Refusal}
+use Rattle.run_words.specs.declared.refusals.Refusal.TheVariants as refusal
 use Rattle.run_words.specs.declared.refusals.Refused.{Refused}
 use Rattle.run_words.specs.EachLine.{TellsEach}
 use Rattle.run_words.specs.Limits.{most_told}
@@ -76,6 +78,16 @@ refuses event.Vacuum answer = false
 abbrev pub does_nothing : Event → Reply → Bool
 does_nothing asked answer = refuses_number asked answer || refuses asked answer
 
+-- an instance that has not begun is asked for something
+abbrev pub names_no_instance : Reply → Bool
+names_no_instance reply.NoSuchInstance = true
+names_no_instance other = false
+
+-- and this is what is told of it
+abbrev pub is_of_none : Refusal → Bool
+is_of_none (refusal.NoInstance instance) = true
+is_of_none other = false
+
 -- the lines stay, or one more stands behind them
 abbrev pub IsOneMore : (before after : List Refused) → Type 0
 IsOneMore before after = (after ≡ before) ⊎ ((refused : Refused) × (after ≡ before ++ refused ∷ []))
@@ -104,6 +116,10 @@ TellsOne before after =
 abbrev pub CountsFollowing : (before after : Refusals) → Type 0
 CountsFollowing before after =
     (after.told.items ≡ before.told.items) × (after.following ≡ one_more before.following) × (after.more ≡ before.more)
+
+-- no line is counted with those
+abbrev pub FollowsNoMore : (before after : Refusals) → Type 0
+FollowsNoMore before after = after.following ≡ before.following
 
 -- as many lines are told as may be, and one more is counted
 abbrev pub CountsFurther : (before after : Refusals) → Type 0

@@ -1,6 +1,6 @@
 //! Which lines of a script do nothing, as its run goes.
-ghost use Rattle.std.specs.Prelude.{◌≡◌, ◌≢◌, ◌<◌, ◌↔◌, ◌⊎◌, [], true, false, None, IsOk, IsTrue, OnOk, length, slice_get, vec_len};
-ghost use Rattle.run_words.specs.ToldLines.{does_nothing, is_lost, is_refusal, refuses, refuses_begin, refuses_instance, refuses_number, told_lines, CountsOneMore, IsOneMore, TellsNoMore, TellsNothing, TellsOneMore};
+ghost use Rattle.std.specs.Prelude.{◌≡◌, ◌≢◌, ◌<◌, ◌↔◌, ◌⊎◌, [], true, false, None, IfSome, IsOk, IsTrue, OnOk, length, slice_get, vec_len};
+ghost use Rattle.run_words.specs.ToldLines.{does_nothing, is_lost, is_of_none, is_refusal, names_no_instance, refuses, refuses_begin, refuses_instance, refuses_number, told_lines, CountsOneMore, FollowsNoMore, IsOneMore, TellsNoMore, TellsNothing, TellsOneMore};
 
 use crate::begin_numbers::{Numbers, Vacuums};
 use crate::event_lines::EventLines;
@@ -50,6 +50,8 @@ pub struct Refusals {
 fn refusal_of_instance(instance: usize, reply: &Reply) -> Option<Refusal>
     ensures none { is_refusal reply.now ≡ false → result ≡ None }
     ensures some { refuses_instance reply.now ≡ true → result ≢ None }
+    ensures other { names_no_instance reply.now ≡ false
+        → IfSome result (λ refusal. is_of_none refusal ≡ false) }
 {
     match reply {
         Reply::NoSuchInstance => Some(Refusal::NoInstance(instance)),
@@ -62,6 +64,7 @@ fn refusal_of_instance(instance: usize, reply: &Reply) -> Option<Refusal>
 fn refusal_of_begin(program: usize, given: usize, reply: &Reply) -> Option<Refusal>
     ensures none { is_refusal reply.now ≡ false → result ≡ None }
     ensures some { refuses_begin reply.now ≡ true → result ≢ None }
+    ensures other { IfSome result (λ refusal. is_of_none refusal ≡ false) }
 {
     match reply {
         Reply::WrongArguments => Some(Refusal::WrongArguments { program, given }),
@@ -74,6 +77,8 @@ fn refusal_of_begin(program: usize, given: usize, reply: &Reply) -> Option<Refus
 fn refusal_of(event: &Event, reply: &Reply) -> Option<Refusal>
     ensures none { is_refusal reply.now ≡ false → result ≡ None }
     ensures some { refuses event.now reply.now ≡ true → result ≢ None }
+    ensures other { names_no_instance reply.now ≡ false
+        → IfSome result (λ refusal. is_of_none refusal ≡ false) }
 {
     match event {
         Event::Begin { program, args } | Event::BeginAt { program, args, .. } => {
@@ -121,6 +126,8 @@ impl Refusals {
         ensures some { OnOk result (0 < vec_len self.new.told) }
         ensures last { OnOk result (self.new.last ≡ line) }
         ensures counted { OnOk result (CountsOneMore self.old self.new) }
+        ensures following { is_of_none refusal ≡ false
+            → OnOk result (FollowsNoMore self.old self.new) }
         ensures held { is_lost self.new ≡ is_lost self.old }
     {
         let is_first = self.told.is_empty();
@@ -151,6 +158,8 @@ impl Refusals {
         ensures more { OnOk result (IsOneMore self.old.told.items self.new.told.items) }
         ensures some { OnOk result (0 < vec_len self.new.told) }
         ensures counted { OnOk result (CountsOneMore self.old self.new) }
+        ensures following { is_of_none refusal ≡ false
+            → OnOk result (FollowsNoMore self.old self.new) }
         ensures held { is_lost self.new ≡ is_lost self.old }
     {
         let line = self.lines.line_of(part, number);
@@ -172,6 +181,8 @@ impl Refusals {
         ensures some { does_nothing event.now reply.now ≡ true
             → OnOk result (0 < vec_len self.new.told) }
         ensures counted { OnOk result (CountsOneMore self.old self.new) }
+        ensures following { names_no_instance reply.now ≡ false
+            → OnOk result (FollowsNoMore self.old self.new) }
         ensures held { is_lost self.new ≡ is_lost self.old }
     {
         if let Some(start) = refused_start(event, reply) {
@@ -214,6 +225,8 @@ impl Refusals {
         ensures stays { is_refusal reply.now ≡ false → TellsNoMore self.old self.new }
         ensures more { TellsOneMore self.old self.new }
         ensures counted { CountsOneMore self.old self.new ⊎ (is_lost self.new ≡ true) }
+        ensures following { names_no_instance reply.now ≡ false → is_lost self.new ≡ false
+            → FollowsNoMore self.old self.new }
         ensures some { does_nothing event.now reply.now ≡ true → is_lost self.new ≡ false
             → 0 < length (told_lines self.new) }
     {
