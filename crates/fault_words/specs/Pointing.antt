@@ -57,11 +57,11 @@ abbrev pub BeginsBy : (first : Option (List ℕ)) → (sentence : List ℕ) → 
 BeginsBy None sentence = ⊤
 BeginsBy (Some first) sentence = (more : List ℕ) × (sentence ≡ first ++ more)
 
--- the words point at the place, and tell first which block is open there, where one is
+-- the words point at the place, and tell first, in one line, which block is open there, where one is
 abbrev pub TellsOpenBlock : (text : List ℕ) → (place : ℕ) → (words : List ℕ) → Type 0
 TellsOpenBlock text place words =
     (sentence : List ℕ) × BeginsBy (option_map (open_text text) (open_head text place)) sentence
-    × (words ≡ pointed_out text place sentence)
+    × (words ≡ pointed_out text place (map visible sentence))
 
 -- a table, a program or a statement begins here
 abbrev pub IsPlaceOf : (text : List ℕ) → Place → (place : ℕ) → Type 0

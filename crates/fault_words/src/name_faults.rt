@@ -8,6 +8,7 @@ use crate::reserved::in_lower_case;
 use crate::scope::{
     Scope, goes_on, is_bound_among, is_of_turn, taken_name, token_place, unknown_name,
 };
+use crate::slips::case_words;
 use prog_check::{CheckFault, Place};
 use std::alloc::{AllocError, Global};
 use text_places::{SetText, as_text, before, begins_word, behind, first_word};
@@ -104,8 +105,8 @@ pub fn unbound_name(
         return format!(in alloc; "a name of this statement is not bound");
     }
     let name = as_text(first_word(behind(plain, mark)));
-    if let Some(word) = in_lower_case(name) {
-        return format!(in alloc; "`{name}` is a name; the word has small letters: write `{word}`");
+    if in_lower_case(name).is_some() {
+        return case_words(alloc, name, "");
     }
     unknown_words(alloc, scope, name)
 }

@@ -270,8 +270,8 @@ pub fn slip_of(around: Around<'_>, could: &[&str]) -> Option<Slip> {
         .or(look_slip(around, could))
 }
 
-// That a name was meant as the word that it is but for its letters' case.
-fn case_words(alloc: Global, name: &str, place: &str) -> Result<String, AllocError> {
+/// That a name was meant as the word that it is but for its letters' case, and where it stands.
+pub fn case_words(alloc: Global, name: &str, place: &str) -> Result<String, AllocError> {
     let word = in_lower_case(name).unwrap_or(name);
     format!(in alloc; "`{name}`{place} is a name; the word has small letters: write `{word}`")
 }

@@ -216,7 +216,7 @@ fn too_early(alloc: Global, text: &[u8], place: usize) -> Result<String, AllocEr
     let more = could_follow(alloc, text)?;
     let said = open_words(alloc, text, place)?;
     let sentence = end_sentence(alloc, said.as_deref(), &more)?;
-    point_out(alloc, text, place, &sentence)
+    point_at(alloc, text, place, &sentence)
 }
 
 // That a statement has an operator too many.
