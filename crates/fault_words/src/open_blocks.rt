@@ -4,7 +4,7 @@ ghost use Rattle.text_places.specs.Reading.{without_comments};
 ghost use Rattle.fault_words.specs.Blocks.{begins_head, closes, head_before, head_of, last_before, open_block, open_head, open_text, opens};
 
 use std::alloc::{AllocError, Global};
-use text_places::{before, behind, line_number, short_word, stands_free, without_comments};
+use text_places::{before, behind, line_number, short_word, stands_free};
 
 fn opens(byte: u8) -> bool
     ensures { result ≡ opens byte }
@@ -95,13 +95,18 @@ fn open_text(alloc: Global, text: &[u8], plain: &[u8], head: usize) -> Result<St
 }
 
 /// The block that is open before a place, as people are told of it; nothing where none is open.
-pub fn open_words(alloc: Global, text: &[u8], place: usize) -> Result<Option<String>, AllocError>
+pub fn open_words(
+    alloc: Global,
+    text: &[u8],
+    plain: &[u8],
+    place: usize,
+) -> Result<Option<String>, AllocError>
+    requires { plain.now ≡ without_comments text.now }
     ensures { IfOk result (λ said. option_map string_bytes said
         ≡ option_map (open_text text.now) (open_head text.now place)) }
 {
-    let plain = without_comments(alloc, text)?;
-    match open_head(before(&plain, place)) {
-        Some(head) => Ok(Some(open_text(alloc, text, &plain, head)?)),
+    match open_head(before(plain, place)) {
+        Some(head) => Ok(Some(open_text(alloc, text, plain, head)?)),
         None => Ok(None),
     }
 }

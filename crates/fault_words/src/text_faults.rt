@@ -1,5 +1,6 @@
 //! The faults of a text in words.
 ghost use Rattle.std.specs.Prelude.{◌≡◌, true, IfOk, option_map, string_bytes};
+ghost use Rattle.text_places.specs.Reading.{without_comments};
 ghost use Rattle.fault_words.specs.Pointing.{begins_anew, is_end, is_unended, may_lack_semicolon, BeginsBy, PointsAtFault, PointsAtToken, TellsOpenBlock};
 
 use crate::expected::{possible, told};
@@ -110,10 +111,13 @@ fn misplaced(alloc: Global, token: &str, could: &[&str]) -> Result<String, Alloc
 fn open_block_words(
     alloc: Global,
     text: &[u8],
+    plain: &[u8],
     place: usize,
     around: Around<'_>,
-) -> Result<String, AllocError> {
-    match open_words(alloc, text, place)? {
+) -> Result<String, AllocError>
+    requires { plain.now ≡ without_comments text.now }
+{
+    match open_words(alloc, text, plain, place)? {
         Some(words) => Ok(words),
         None => slip_words(alloc, Slip::OpenBlock, around),
     }
@@ -123,12 +127,15 @@ fn open_block_words(
 fn unexpected_words(
     alloc: Global,
     text: &[u8],
+    plain: &[u8],
     place: usize,
     could: &[&str],
     around: Around<'_>,
-) -> Result<String, AllocError> {
+) -> Result<String, AllocError>
+    requires { plain.now ≡ without_comments text.now }
+{
     match slip_of(around, could) {
-        Some(Slip::OpenBlock) => open_block_words(alloc, text, place, around),
+        Some(Slip::OpenBlock) => open_block_words(alloc, text, plain, place, around),
         Some(slip) => slip_words(alloc, slip, around),
         None => misplaced(alloc, around.token, could),
     }
@@ -185,7 +192,7 @@ fn unexpected(alloc: Global, text: &[u8], place: usize) -> Result<String, AllocE
     if lacks_semicolon(&plain, end, place, &could, is_first) {
         return point_out(alloc, text, end, "a `;` is missing here");
     }
-    let sentence = unexpected_words(alloc, text, place, &could, around)?;
+    let sentence = unexpected_words(alloc, text, &plain, place, &could, around)?;
     point_at(alloc, text, place, &sentence)
 }
 
@@ -214,7 +221,8 @@ fn too_early(alloc: Global, text: &[u8], place: usize) -> Result<String, AllocEr
     ensures { IfOk result (λ words. TellsOpenBlock text.now place (string_bytes words)) }
 {
     let more = could_follow(alloc, text)?;
-    let said = open_words(alloc, text, place)?;
+    let plain = without_comments(alloc, text)?;
+    let said = open_words(alloc, text, &plain, place)?;
     let sentence = end_sentence(alloc, said.as_deref(), &more)?;
     point_at(alloc, text, place, &sentence)
 }
