@@ -26,8 +26,8 @@ fn tried_signs() -> &'static [&'static str]
     &SIGNS
 }
 
-// Whether a word goes on a text, which is left as it was.
-fn goes_on(alloc: Global, text: &mut Vec<u8>, word: &str) -> Result<bool, AllocError> {
+// Whether a word may follow a text, which is left as it was.
+fn may_follow(alloc: Global, text: &mut Vec<u8>, word: &str) -> Result<bool, AllocError> {
     let len = text.len();
     text.extend_from_slice(word.as_bytes())?;
     let parsed = parse(alloc, text);
@@ -54,7 +54,7 @@ fn shown(alloc: Global, word: &str) -> Result<String, AllocError> {
 fn possible_signs(alloc: Global, text: &mut Vec<u8>) -> Result<Vec<&'static str>, AllocError> {
     let mut list = Vec::new(alloc);
     for sign in tried_signs() {
-        if goes_on(alloc, text, sign)? {
+        if may_follow(alloc, text, sign)? {
             list.push(*sign)?;
         }
     }
@@ -71,7 +71,7 @@ pub fn possible(alloc: Global, before: &[u8]) -> Result<Vec<&'static str>, Alloc
     text.push(b' ')?;
     let mut list = possible_signs(alloc, &mut text)?;
     for (word, _sign) in reserved_words() {
-        if goes_on(alloc, &mut text, word)? {
+        if may_follow(alloc, &mut text, word)? {
             list.push(*word)?;
         }
     }
@@ -79,7 +79,7 @@ pub fn possible(alloc: Global, before: &[u8]) -> Result<Vec<&'static str>, Alloc
 }
 
 /// Words that were tried, as people are told of them.
-pub fn told(alloc: Global, words: &[&str]) -> Result<String, AllocError> {
+pub fn listed_words(alloc: Global, words: &[&str]) -> Result<String, AllocError> {
     let mut list = String::new(alloc);
     for word in words {
         push_listed(&mut list, &shown(alloc, word)?)?;

@@ -3,7 +3,7 @@ ghost use Rattle.std.specs.Prelude.{◌≡◌, true, IfOk, option_map, string_by
 ghost use Rattle.text_places.specs.Reading.{without_comments};
 ghost use Rattle.fault_words.specs.Pointing.{begins_anew, is_end, is_unended, may_lack_semicolon, BeginsBy, PointsAtFault, PointsAtToken, TellsOpenBlock};
 
-use crate::expected::{possible, told};
+use crate::expected::{listed_words, possible};
 use crate::open_blocks::open_words;
 use crate::ordinals::ordinal;
 use crate::pointing::point_at;
@@ -103,7 +103,7 @@ fn misplaced_words(alloc: Global, token: &str, known: &str) -> Result<String, Al
 
 // The same, where these could stand.
 fn misplaced(alloc: Global, token: &str, could: &[&str]) -> Result<String, AllocError> {
-    let known = told(alloc, could)?;
+    let known = listed_words(alloc, could)?;
     misplaced_words(alloc, token, &known)
 }
 
@@ -199,7 +199,7 @@ fn unexpected(alloc: Global, text: &[u8], place: usize) -> Result<String, AllocE
 // What could follow, where that is known.
 fn could_follow(alloc: Global, text: &[u8]) -> Result<String, AllocError> {
     let could = possible(alloc, text)?;
-    let known = told(alloc, &could)?;
+    let known = listed_words(alloc, &could)?;
     if known.is_empty() {
         return Ok(known);
     }
