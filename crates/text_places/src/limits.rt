@@ -4,7 +4,7 @@
 pub const MAX_BEFORE: usize = 60;
 
 /// Bytes of a line in all.
-pub const MAX_SHOWN: usize = 100;
+pub const MAX_LINE: usize = 100;
 
 /// Bytes that tell whether a word is one of at most seven.
 pub const SHORT_WORD: usize = 8;

@@ -2,7 +2,7 @@
 ghost use Rattle.std.specs.Prelude.{◌≡◌, ◌<◌, ◌++◌, IfOk, OnOk, map, replicate, string_bytes};
 ghost use Rattle.text_places.specs.Quotes.{left_out, mark, pointed_out, position, quote, visible};
 
-use crate::limits::{MAX_BEFORE, MAX_SHOWN};
+use crate::limits::{MAX_BEFORE, MAX_LINE};
 use crate::place::{before, behind, column, inset, line_at, line_number};
 use std::alloc::{AllocError, Global};
 
@@ -63,7 +63,7 @@ fn push_quote(out: &mut String, text: &[u8], place: usize) -> Result<(), AllocEr
 {
     let inset = inset(text, place);
     let left_out = inset.saturating_sub(MAX_BEFORE);
-    let shown = before(behind(line_at(text, place), left_out), MAX_SHOWN);
+    let shown = before(behind(line_at(text, place), left_out), MAX_LINE);
     out.push_str("  ")?;
     push_visible(out, shown)?;
     out.push_str("\n  ")?;
