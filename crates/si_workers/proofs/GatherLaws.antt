@@ -8,8 +8,7 @@ use Rattle.std.proofs.lemmas.List.Concat.{flat_map-append}
 use Rattle.std.proofs.lemmas.Option.{slice_get-map, slice_get_past}
 use Rattle.si_engine.proofs.PlaceLaws.{get-set_other, get-set_same}
 use Rattle.si_workers.specs.KeptAndTold.{Tidings}
-use Rattle.si_workers.specs.Gathered.{with_one, with_all, AreToldMore}
-use Rattle.si_workers.specs.OutcomeIn.{outcome_in}
+use Rattle.si_workers.specs.Gathered.{outcome_in, with_one, with_all, AreToldMore}
 use Rattle.si_workers.specs.Told.{Report, outcomes_of, only, AreTold}
 use Rattle.si_workers.specs.declared.job.Job.{Job}
 use Rattle.si_workers.specs.declared.job.JobOutcome.{JobOutcome}

@@ -1,5 +1,5 @@
 -- What was told of jobs, as reports come in.
-use Rattle.std.specs.Prelude.{◌≡◌, ℕ, List, [], ◌∷◌, slice_get}
+use Rattle.std.specs.Prelude.{◌≡◌, ℕ, List, [], ◌∷◌, Option, Some, None, slice_get}
 use Rattle.std.specs.Option.{option_map}
 use Rattle.si_workers.specs.declared.job.JobOutcome.{JobOutcome}
 use Rattle.si_workers.specs.declared.told.Told.{Told}
@@ -16,6 +16,12 @@ with_one Often outcome = Often
 abbrev pub with_all : List JobOutcome → Told → Told
 with_all [] t = t
 with_all (outcome ∷ more) t = with_all more (with_one t outcome)
+
+-- the outcome, where there is exactly one
+abbrev pub outcome_in : Told → Option JobOutcome
+outcome_in Nothing = None
+outcome_in (Once outcome) = Some outcome
+outcome_in Often = None
 
 -- of each job the outcomes that the reports have of it were told
 abbrev pub AreToldMore : (before after : List Told) → List Report → Type 0

@@ -10,7 +10,6 @@ pub mod KeptAndTold
 pub mod Keys
 pub mod LastAnswer
 pub mod Limits
-pub mod OutcomeIn
 pub mod Outcomes
 pub mod Settled
 pub mod Stops

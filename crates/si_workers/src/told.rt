@@ -2,8 +2,7 @@
 
 ghost use Rattle.std.specs.Prelude.{◌≡◌, ◌<◌, ◌∷◌, [], length, IfOk, Some, None, map, flat_map, option_copied};
 ghost use Rattle.si_workers.specs.declared.told.Told.TheVariants.{Nothing};
-ghost use Rattle.si_workers.specs.Gathered.{AreToldMore, with_one};
-ghost use Rattle.si_workers.specs.OutcomeIn.{outcome_in};
+ghost use Rattle.si_workers.specs.Gathered.{outcome_in, with_one, AreToldMore};
 ghost use Rattle.si_workers.specs.Told.{AreTold};
 
 use crate::job::{Job, JobOutcome};
@@ -46,7 +45,7 @@ impl<'j> Model for Tiding<'j> {
     ghost use Rattle.std.specs.Prelude.{Option};
     ghost use Rattle.si_workers.specs.declared.job.Job.{Job};
     ghost use Rattle.si_workers.specs.declared.job.JobOutcome.{JobOutcome};
-    ghost use Rattle.si_workers.specs.OutcomeIn.{outcome_in};
+    ghost use Rattle.si_workers.specs.Gathered.{outcome_in};
 
     ghost Value = { Job × Option JobOutcome };
 

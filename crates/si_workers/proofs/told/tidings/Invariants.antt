@@ -1,5 +1,5 @@
 use Rattle.std.proofs.Common.{◌≡◌, ◌++◌, length, map, take}
-use Rattle.si_workers.specs.OutcomeIn.{outcome_in}
+use Rattle.si_workers.specs.Gathered.{outcome_in}
 use Rattle.si_workers.proofs.told.tidings.Given as goal
 
 abbrev pub invariant-loop-one : goal.invariant-loop-one
