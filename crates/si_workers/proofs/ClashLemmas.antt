@@ -1,10 +1,9 @@
 -- Clashes of every call are told, where those of the calls of endings and jobs are.
-use Rattle.std.proofs.Common.{◌≡◌, ◌+◌, ◌⊎◌, inl, inr, refl, sym, subst, ◌∙◌, cond, Bool, true, false, ◌&&◌, ◌==◌, List, [], ◌∷◌, slice_index_or, ◌↔◌}
-use Rattle.std.specs.Prelude.{IsTrue}
+use Rattle.std.proofs.Common.{◌≡◌, ℕ, ◌+◌, ◌⊎◌, inl, inr, refl, sym, subst, ◌∙◌, cond, Bool, true, false, ◌&&◌, ◌==◌, List, [], ◌∷◌, slice_index_or, ◌↔◌}
+use Rattle.std.specs.Prelude.{IsTrue, Option, sum_by}
 use Rattle.std.specs.List.{All}
 use Rattle.std.specs.Cmp.Lexicographic.{pointwise}
 use Rattle.std.specs.Ordering.{int_eq}
-use Rattle.std.specs.Prelude.{Option}
 use Rattle.std.proofs.lemmas.Bool.{and_parts}
 use Rattle.std.proofs.lemmas.Bool.Decides.{Decides-int_eq, Decides-eqb}
 use Rattle.std.proofs.lemmas.List.Elements.{All-head, All-tail}
@@ -27,39 +26,30 @@ same_calls a b e =
     let args : a.args ≡ b.args = (slice_eq-Decides Decides-int_eq a.args b.args (pointwise int_eq a.args b.args) refl).0 both.1 in
     λ i. record { program = programs i; args = args i }
 
--- what holds of a call holds of a call that is the same
-by_same : (P : Call → Type 0) (a b : Call) (test : Bool) → test ≡ is_same_call a b → P b → (P a) ⊎ (test ≡ false)
-by_same P a b true e h = inl (subst P (sym (same_calls a b (sym e))) h)
-by_same P a b false e h = inr refl
+-- what holds of a call holds of a call that is the same, and of another nothing is counted
+by_same : (P : Call → Type 0) (a b : Call) (test : Bool) (n : ℕ) → test ≡ is_same_call a b → P b → (P a) ⊎ (cond test n 0 ≡ 0)
+by_same P a b true n e h = inl (subst P (sym (same_calls a b (sym e))) h)
+by_same P a b false n e h = inr refl
+
+-- a sum of nothing but zeros is zero
+sum_none : {X : Type 0} (P : Type 0) (f : X → ℕ) (Q : X → Type 0) → ((x : X) → Q x → P ⊎ (f x ≡ 0)) → (xs : List X) → All Q xs → P ⊎ (sum_by f xs ≡ 0)
+sum_none P f Q each [] all = inr refl
+sum_none P f Q each (x ∷ xs) all = go (each x (All-head Q x xs all)) (sum_none P f Q each xs (All-tail Q x xs all))
+  where
+    go : P ⊎ (f x ≡ 0) → P ⊎ (sum_by f xs ≡ 0) → P ⊎ (sum_by f (x ∷ xs) ≡ 0)
+    go (inl holds) more = inl holds
+    go (inr none) (inl holds) = inl holds
+    go (inr none) (inr rest) = inr (sum_by-cons f x xs ∙ (λ i. none i + rest i))
 
 -- a call of no ending that clashed has no clash
-kept-step : (P : Type 0) (call : Call) (e : Ending) (es : List Ending) → P ⊎ (is_clash_of call e ≡ false) → P ⊎ (clashes_kept call es ≡ 0) → P ⊎ (clashes_kept call (e ∷ es) ≡ 0)
-kept-step P call e es (inl h) more = inl h
-kept-step P call e es (inr none) (inl h) = inl h
-kept-step P call e es (inr none) (inr rest) = inr (sum_by-cons (λ x. cond (is_clash_of call x) 1 0) e es ∙ (λ i. cond (none i) 1 0 + rest i))
-
-kept-none : (call : Call) (E : List Ending) (T : Tidings) (e : Ending) → IsClashTold E T e → (AreAsMany E T call) ⊎ (is_clash_of call e ≡ false)
-kept-none call E T (Committed n) h = inr refl
-kept-none call E T (Clashed row clash) h = by_same (AreAsMany E T) call (called_in row) (is_same_call call (called_in row)) refl h
-kept-none call E T (Aborted row cause) h = inr refl
-
-kept-told : (call : Call) (E : List Ending) (T : Tidings) (es : List Ending) → All (IsClashTold E T) es → (AreAsMany E T call) ⊎ (clashes_kept call es ≡ 0)
-kept-told call E T [] h = inr refl
-kept-told call E T (e ∷ es) h =
-    kept-step (AreAsMany E T call) call e es (kept-none call E T e (All-head (IsClashTold E T) e es h)) (kept-told call E T es (All-tail (IsClashTold E T) e es h))
+kept_none : (E : List Ending) (T : Tidings) (call : Call) (e : Ending) → IsClashTold E T e → (AreAsMany E T call) ⊎ (cond (is_clash_of call e) 1 0 ≡ 0)
+kept_none E T call (Committed n) h = inr refl
+kept_none E T call (Clashed row clash) h = by_same (AreAsMany E T) call (called_in row) (is_same_call call (called_in row)) 1 refl h
+kept_none E T call (Aborted row cause) h = inr refl
 
 -- a call of no job has no clash that is told
-told-step : (P : Type 0) (call : Call) (t : Job × Option JobOutcome) (ts : Tidings) → P ⊎ (is_same_call call (call_of t.0) ≡ false) → P ⊎ (clashes_told call ts ≡ 0) → P ⊎ (clashes_told call (t ∷ ts) ≡ 0)
-told-step P call t ts (inl h) more = inl h
-told-step P call t ts (inr none) (inl h) = inl h
-told-step P call t ts (inr none) (inr rest) = inr (sum_by-cons (clashes_of call) t ts ∙ (λ i. cond (none i) (tries_in t.1) 0 + rest i))
-
-told-kept : (call : Call) (E : List Ending) (T : Tidings) (ts : Tidings) → All (λ t. AreAsMany E T (call_of t.0)) ts → (AreAsMany E T call) ⊎ (clashes_told call ts ≡ 0)
-told-kept call E T [] h = inr refl
-told-kept call E T (t ∷ ts) h =
-    told-step (AreAsMany E T call) call t ts
-    (by_same (AreAsMany E T) call (call_of t.0) (is_same_call call (call_of t.0)) refl (All-head (λ t. AreAsMany E T (call_of t.0)) t ts h))
-    (told-kept call E T ts (All-tail (λ t. AreAsMany E T (call_of t.0)) t ts h))
+told_none : (E : List Ending) (T : Tidings) (call : Call) (t : Job × Option JobOutcome) → AreAsMany E T (call_of t.0) → (AreAsMany E T call) ⊎ (clashes_of call t ≡ 0)
+told_none E T call t h = by_same (AreAsMany E T) call (call_of t.0) (is_same_call call (call_of t.0)) (tries_in t.1) refl h
 
 from_none : (E : List Ending) (T : Tidings) (call : Call) → (AreAsMany E T call) ⊎ (clashes_kept call E ≡ 0) → (AreAsMany E T call) ⊎ (clashes_told call T ≡ 0) → AreAsMany E T call
 from_none E T call (inl h) told = h
@@ -68,7 +58,10 @@ from_none E T call (inr none) (inr nothing) = none ∙ sym nothing
 
 -- as many clashes of every call are kept as told
 pub every_call : (E : List Ending) (T : Tidings) → All (IsClashTold E T) E → All (λ t. AreAsMany E T (call_of t.0)) T → AreClashesTold E T
-every_call E T kept told call = from_none E T call (kept-told call E T E kept) (told-kept call E T T told)
+every_call E T kept told call =
+    from_none E T call
+    (sum_none (AreAsMany E T call) (λ (e : Ending). cond (is_clash_of call e) 1 0) (IsClashTold E T) (kept_none E T call) E kept)
+    (sum_none (AreAsMany E T call) (clashes_of call) (λ (t : Job × Option JobOutcome). AreAsMany E T (call_of t.0)) (told_none E T call) T told)
 
 -- and the converse
 kept_call : (E : List Ending) (T : Tidings) → AreClashesTold E T → (e : Ending) → IsClashTold E T e
