@@ -34,6 +34,14 @@ abbrev pub IsCompared : Assigned → Tidings → BookView → Compared → Type 
 IsCompared given ts v (compared.Correspond outcomes) = Correspond given ts v × AreOutcomesIn ts outcomes.items
 IsCompared given ts v (compared.Broken job outcome) = IsBroken given ts v job × (outcome ≡ outcome_at ts job)
 
+-- no worker lacked memory, and what they told compares so with the book
+pub record IsWorkCompared (given : Assigned) (jobs : List Job) (done : List Done) (v : BookView) (c : Compared) : Type 0
+  where
+    pub enough : lack_memory done ≡ false
+    pub ts : Tidings
+    pub told : AreToldBy jobs done ts
+    pub compared : IsCompared given ts v c
+
 -- the order is the least, and fits
 pub record IsOrderOf (v : BookView) (order : List ℕ) : Type 0 where
   pub least : least_order (depends_in v) (length v.rows) ≡ Some order

@@ -7,7 +7,7 @@ ghost use Rattle.prog_paths.specs.StaticGraph.{IsDangerous};
 ghost use Rattle.history_book.specs.TrueBook.{IsTrueBook};
 ghost use Rattle.si_workers.specs.Assigned.{assigned, assigned_by};
 ghost use Rattle.si_workers.specs.Outcomes.{OutcomesCorrespond};
-ghost use Rattle.si_workers.specs.Settled.{AreOutcomesIn, IsCompared, IsConcluded, IsHandedOut, IsOrderOf, IsSettled, lack_memory};
+ghost use Rattle.si_workers.specs.Settled.{AreOutcomesIn, IsCompared, IsConcluded, IsHandedOut, IsOrderOf, IsSettled, IsWorkCompared, lack_memory};
 ghost use Rattle.si_workers.specs.Work.{AreTaken, IsWorkFault, jobs_by, outcome_at};
 
 use crate::assignment::Assignment;
@@ -153,7 +153,25 @@ fn conclude<'a>(
     })
 }
 
-// What workers did, settled by the book that they leave.
+// What workers did, compared with the book that they leave: memory lacks where some worker lacked
+// it, too.
+fn compare_work(
+    alloc: Global,
+    given: Assignment<'_>,
+    jobs: &[Job],
+    done: Vec<Done>,
+    book: &Book<'_>,
+) -> Result<Compared, AllocError>
+    ensures { IfOk result (IsWorkCompared (assigned_by given.entry) jobs.now done.items book.now) }
+{
+    if lack_memory(&done) {
+        return Err(AllocError);
+    }
+    let tidings = gather(alloc, jobs_by(done.len(), jobs), done)?;
+    compare(alloc, given, tidings, book)
+}
+
+// The same, settled.
 fn settle<'a>(
     alloc: Global,
     given: Assignment<'_>,
@@ -164,16 +182,8 @@ fn settle<'a>(
     requires safe { ¬ IsDangerous (paths_of (draft_tree given.set.now)) }
     ensures { IsSettled (assigned_by given.entry) jobs.now done.items book.entry result }
 {
-    if lack_memory(&done) {
-        let book = book_over(given, book);
-        return Err(WorkFault::Memory { book });
-    }
     let started = done.len();
-    let Ok(tidings) = gather(alloc, jobs_by(started, jobs), done) else {
-        let book = book_over(given, book);
-        return Err(WorkFault::Memory { book });
-    };
-    match compare(alloc, given, tidings, &book) {
+    match compare_work(alloc, given, jobs, done, &book) {
         Ok(Compared::Correspond(outcomes)) => conclude(given.workers, started, outcomes, book),
         Ok(Compared::Broken { job, outcome }) => Err(WorkFault::Broken { job, outcome, book }),
         Err(AllocError) => {
