@@ -27,7 +27,8 @@ two_keys first second = option_and_then (λ a. option_map (Two a) (i64_of second
 
 -- a row, where its keys and its value are numbers
 abbrev pub row_of : List ℕ → Option Keys → Option ℤ → Option RowWords
-row_of table keys value = option_and_then (λ k. option_map (λ v. record { table = table; keys = k; value = v }) value) keys
+row_of table keys value =
+    option_and_then (λ k. option_map (λ v. record { table = table; keys = k; value = v }) value) keys
 
 -- a row's words: its table, its keys and its value, of which all but the table are numbers
 abbrev pub row_with : List ℕ → Option Keys → (sign value : List ℕ) → Option RowWords
