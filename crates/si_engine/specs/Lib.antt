@@ -1,3 +1,4 @@
+pub mod AtHand
 pub mod Commands
 pub mod Headline
 pub mod LastLine

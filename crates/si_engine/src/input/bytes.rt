@@ -1,5 +1,5 @@
 //! Bytes at hand as a source.
-ghost use Rattle.std.specs.Prelude.{◌≡◌, ◌-◌, ◌^◌, true, false, Some};
+ghost use Rattle.std.specs.Prelude.{◌≡◌, ◌-◌, ◌^◌, true, Some};
 
 use crate::input::source::{DeviceFault, Source};
 
@@ -14,10 +14,11 @@ pub struct Bytes<'a> {
 }
 
 impl<'a> Bytes<'a> {
+    ghost use Rattle.si_engine.specs.AtHand.{bytes_left, IsUnpulled};
+
     pub fn new(bytes: &'a [u8]) -> Self
-        ensures left { result.left.now ≡ bytes.now }
-        ensures pulls { result.pulls ≡ 0 }
-        ensures whole { result.broken ≡ false }
+        ensures left { bytes_left result ≡ bytes.now }
+        ensures unpulled { IsUnpulled result }
     {
         Bytes {
             left: bytes,
