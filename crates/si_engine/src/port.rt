@@ -1,5 +1,5 @@
 //! A reader as a source, and a writer as a sink.
-ghost use Rattle.std.specs.Prelude.{◌≡◌, false};
+ghost use Rattle.std.specs.Prelude.{◌≡◌};
 
 use crate::input::source::{DeviceFault, Source};
 use crate::output::sink::Sink;
@@ -15,10 +15,11 @@ pub struct Port<T> {
 }
 
 impl<T> Port<T> {
+    ghost use Rattle.si_engine.specs.AtHand.{inner_of, IsUnused};
+
     pub fn new(inner: T) -> Port<T>
-        ensures inner { result.inner ≡ inner }
-        ensures pulls { result.pulls ≡ 0 }
-        ensures whole { result.broken ≡ false }
+        ensures inner { inner_of result ≡ inner }
+        ensures unused { IsUnused result }
     {
         Port {
             inner,
@@ -28,7 +29,7 @@ impl<T> Port<T> {
     }
 
     pub fn into_inner(self) -> T
-        ensures { result ≡ self.inner }
+        ensures { result ≡ inner_of self }
     {
         let Port { inner, .. } = self;
         inner
