@@ -42,7 +42,7 @@ impl ListItem for Job {
 
     ghost item_of = { job_of };
 
-    fn first_word() -> &'static [u8] {
+    fn item_word() -> &'static [u8] {
         b"job".as_slice()
     }
 

@@ -19,7 +19,7 @@ pub trait ListItem: Drop {
     /// What the words behind it are, in a line of a number, or the line's fault.
     ghost item_of: { DraftTree → ℕ → List (List ℕ) → Result Self LineFault };
 
-    fn first_word() -> &'static [u8]
+    fn item_word() -> &'static [u8]
         ensures { result.now ≡ keyword };
 
     fn read(

@@ -39,7 +39,7 @@ fn words_line<T: ListItem>(
     if first.is(b"row") {
         let row = row_line(set, line, rest)?;
         Ok(ListLine::Row(row))
-    } else if first.is(T::first_word()) {
+    } else if first.is(T::item_word()) {
         let item = T::read(alloc, set, line, rest)?;
         Ok(ListLine::Item(item))
     } else {

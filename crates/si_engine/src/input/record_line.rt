@@ -126,7 +126,7 @@ impl ListItem for HistoryRow {
 
     ghost item_of = { record_row_of };
 
-    fn first_word() -> &'static [u8] {
+    fn item_word() -> &'static [u8] {
         b"record".as_slice()
     }
 
