@@ -12,7 +12,7 @@ pub mod Turns
 pub mod Exposed
 pub mod Firsts
 pub mod Ranking
-pub mod Marking
+pub mod Obstacles
 pub mod Naming
 pub mod Repaired
 pub mod Putting

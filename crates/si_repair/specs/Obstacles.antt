@@ -24,19 +24,19 @@ IsObstacle draft pair (Some BodyRead) = StopsAtBody draft pair
 -- ---- ranges
 
 -- for each statement of a block in the order of the text, whether it is a range
-abbrev pub range_marks : BlockTree → List Bool
-range_marks BlockEnd = []
-range_marks (Then statement rest) = is_range statement ∷ range_marks rest
-range_marks (Branch test a b rest) = false ∷ (range_marks a ++ (range_marks b ++ range_marks rest))
-range_marks (Each l body rest) = is_range (as_count l) ∷ (range_marks body ++ range_marks rest)
+abbrev pub range_list : BlockTree → List Bool
+range_list BlockEnd = []
+range_list (Then statement rest) = is_range statement ∷ range_list rest
+range_list (Branch test a b rest) = false ∷ (range_list a ++ (range_list b ++ range_list rest))
+range_list (Each l body rest) = is_range (as_count l) ∷ (range_list body ++ range_list rest)
 
 -- the same for a program, where there is one
 abbrev pub program_ranges : Option ProgramTree → List Bool
-program_ranges program = option_map_or (λ (p : ProgramTree). range_marks p.body) program []
+program_ranges program = option_map_or (λ (p : ProgramTree). range_list p.body) program []
 
--- the statement of this number is marked as one
-abbrev pub IsMarkedAt : List Bool → (number : ℕ) → Type 0
-IsMarkedAt marks number = slice_index_or marks number false ≡ true
+-- the statement of this number is listed as one
+abbrev pub IsRangeIn : List Bool → (number : ℕ) → Type 0
+IsRangeIn ranges number = slice_index_or ranges number false ≡ true
 
 -- ---- reads
 

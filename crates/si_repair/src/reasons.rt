@@ -118,7 +118,7 @@ fn mix(seen: usize, number: usize) -> usize {
     seen.wrapping_mul(2_531).wrapping_add(number)
 }
 
-fn node_mark(node: Node) -> usize {
+fn node_hash(node: Node) -> usize {
     match node {
         Node::Mine(index) => mix(1, index),
         Node::MineUnknown(index) => mix(2, index),
@@ -129,32 +129,32 @@ fn node_mark(node: Node) -> usize {
 }
 
 // Of the first two nodes.
-fn chain_mark(chain: &conflict_pairs::Chain) -> usize {
+fn chain_hash(chain: &conflict_pairs::Chain) -> usize {
     match chain.as_slice() {
         [] => 0,
-        [only] => node_mark(*only),
-        [first, second, ..] => mix(node_mark(*first), node_mark(*second)),
+        [only] => node_hash(*only),
+        [first, second, ..] => mix(node_hash(*first), node_hash(*second)),
     }
 }
 
 // Of the first and the last chain.
-fn chains_mark(chains: &[conflict_pairs::Chain]) -> usize {
+fn chains_hash(chains: &[conflict_pairs::Chain]) -> usize {
     match chains {
         [] => 0,
-        [only] => chain_mark(only),
-        [first, .., last] => mix(chain_mark(first), chain_mark(last)),
+        [only] => chain_hash(only),
+        [first, .., last] => mix(chain_hash(first), chain_hash(last)),
     }
 }
 
 // Of the reason that a verdict gives.
-fn reason_mark(verdict: &Verdict) -> usize {
+fn reason_hash(verdict: &Verdict) -> usize {
     match verdict {
-        Verdict::Apart(chain) => chain_mark(chain),
+        Verdict::Apart(chain) => chain_hash(chain),
         Verdict::Covered {
             mine,
             theirs,
             chains,
-        } => mix(mix(*mine, *theirs), chains_mark(chains.as_slice())),
+        } => mix(mix(*mine, *theirs), chains_hash(chains.as_slice())),
         Verdict::Exposed(_) => 0,
     }
 }
@@ -175,7 +175,7 @@ impl Interner for Reasoning {
     ghost serves = { λ reasoning verdict reason. Gives verdict reason };
 
     fn hash(&self, verdict: &Verdict) -> usize {
-        reason_mark(verdict)
+        reason_hash(verdict)
     }
 
     fn is_served(&self, verdict: &Verdict, reason: &Reason) -> bool {

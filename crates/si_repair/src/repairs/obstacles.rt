@@ -4,7 +4,7 @@ ghost use Rattle.prog_tree.specs.Tree.{draft_tree};
 ghost use Rattle.prog_check.specs.Paths.{paths_of};
 ghost use Rattle.repair_laws.specs.Refusals.{IsUnknownTerm, IsUnknownSecond, HasUnknownKey};
 ghost use Rattle.si_repair.specs.Exposed.{HasBoth, AreExposed};
-ghost use Rattle.si_repair.specs.Obstacles.{IsObstacle, IsMarkedAt, MeetInBody, Hinders, HasHindered, IsFirstHindered, IsFirstHinderedOf, obstacle_of};
+ghost use Rattle.si_repair.specs.Obstacles.{IsObstacle, IsRangeIn, MeetInBody, Hinders, HasHindered, IsFirstHindered, IsFirstHinderedOf, obstacle_of};
 
 use crate::repairs::exposed::{access_at, exposed_questions};
 use crate::repairs::ranges::{is_range, ranges_of};
@@ -61,11 +61,11 @@ fn meet_in_body(read: &Access, other: &Access) -> bool
 }
 
 /// Whether this is why no keep covers a read, with the access that it may miss.
-fn hinders(obstacle: Obstacle, marks: &[bool], read: &Access, other: &Access) -> bool
-    ensures { IsTrue result ↔ Hinders obstacle (IsMarkedAt marks.now) read.now other.now }
+fn hinders(obstacle: Obstacle, ranges: &[bool], read: &Access, other: &Access) -> bool
+    ensures { IsTrue result ↔ Hinders obstacle (IsRangeIn ranges.now) read.now other.now }
 {
     match obstacle {
-        Obstacle::RangeRead => is_range(marks, read.place),
+        Obstacle::RangeRead => is_range(ranges, read.place),
         Obstacle::UnknownKey => has_unknown_key(read),
         Obstacle::BodyRead => meet_in_body(read, other),
     }
@@ -74,17 +74,17 @@ fn hinders(obstacle: Obstacle, marks: &[bool], read: &Access, other: &Access) ->
 /// The first question whose read no keep covers for this reason.
 fn first_hindered(
     paths: &[Path],
-    marks: &[bool],
+    ranges: &[bool],
     questions: &[Question],
     obstacle: Obstacle,
 ) -> Option<Question>
     requires { All (λ q. HasBoth paths.now q) questions.now }
-    ensures { IsFirstHindered paths.now (IsMarkedAt marks.now) obstacle questions.now result }
+    ensures { IsFirstHindered paths.now (IsRangeIn ranges.now) obstacle questions.now result }
 {
     for question in questions {
         let read = access_at(paths, question.x, question.a);
         let other = access_at(paths, question.y, question.b);
-        if hinders(obstacle, marks, &read, &other) {
+        if hinders(obstacle, ranges, &read, &other) {
             return Some(*question);
         }
     }
@@ -92,12 +92,12 @@ fn first_hindered(
 }
 
 /// Whether there is one.
-fn is_hindered(paths: &[Path], marks: &[bool], questions: &[Question], obstacle: Obstacle) -> bool
+fn is_hindered(paths: &[Path], ranges: &[bool], questions: &[Question], obstacle: Obstacle) -> bool
     requires { All (λ q. HasBoth paths.now q) questions.now }
     ensures { IsTrue result
-        ↔ HasHindered paths.now (IsMarkedAt marks.now) obstacle questions.now }
+        ↔ HasHindered paths.now (IsRangeIn ranges.now) obstacle questions.now }
 {
-    first_hindered(paths, marks, questions, obstacle).is_some()
+    first_hindered(paths, ranges, questions, obstacle).is_some()
 }
 
 /// The obstacle of a pair that reads a range or not, under an unknown key or not, and in a body or
@@ -129,11 +129,11 @@ pub fn first_obstacle(
     requires exposed { AreExposed paths.now pair questions.now }
     ensures { IfOk result (λ obstacle. IsObstacle (draft_tree draft.now) pair obstacle) }
 {
-    let ranges = ranges_of(alloc, draft, pair.from)?;
-    let marks = ranges.as_slice();
-    let reads_range = is_hindered(paths, marks, questions, Obstacle::RangeRead);
-    let unknown_key = is_hindered(paths, marks, questions, Obstacle::UnknownKey);
-    let in_body = is_hindered(paths, marks, questions, Obstacle::BodyRead);
+    let listed = ranges_of(alloc, draft, pair.from)?;
+    let ranges = listed.as_slice();
+    let reads_range = is_hindered(paths, ranges, questions, Obstacle::RangeRead);
+    let unknown_key = is_hindered(paths, ranges, questions, Obstacle::UnknownKey);
+    let in_body = is_hindered(paths, ranges, questions, Obstacle::BodyRead);
     Ok(obstacle_of(reads_range, unknown_key, in_body))
 }
 
@@ -149,8 +149,8 @@ pub fn hindered_question(
     ensures { IfOk result (λ found.
         IsFirstHinderedOf (draft_tree draft.now) pair obstacle found) }
 {
-    let marks = ranges_of(alloc, draft, pair.from)?;
+    let ranges = ranges_of(alloc, draft, pair.from)?;
     let questions = exposed_questions(alloc, paths, pair)?;
-    let found = first_hindered(paths, &marks, &questions, obstacle);
+    let found = first_hindered(paths, &ranges, &questions, obstacle);
     Ok(found)
 }

@@ -3,16 +3,16 @@ ghost use Rattle.std.specs.Prelude.{◌≡◌, ◌↔◌, ◌++◌, false, IfOk,
 ghost use Rattle.prog_tree.specs.Syntax.{BlockTree};
 ghost use Rattle.prog_tree.specs.Tree.{with_stmt, block_tree, draft_tree};
 ghost use Rattle.repair_laws.specs.Refusals.{IsRangeAt};
-ghost use Rattle.si_repair.specs.Obstacles.{range_marks, program_ranges};
+ghost use Rattle.si_repair.specs.Obstacles.{range_list, program_ranges};
 
 use prog_tree::{Block, Draft, Stmt};
 use std::alloc::{AllocError, Global};
 
 /// Adds whether a statement is a range, and the same of those in its blocks.
-#[cycle(marks)]
-fn push_stmt(marks: &mut Vec<bool>, stmt: &Stmt) -> Result<(), AllocError>
-    ensures { OnOk result ((rest : BlockTree) → marks.new.items ++ range_marks rest
-        ≡ marks.old.items ++ range_marks (with_stmt stmt.now rest)) }
+#[cycle(ranges)]
+fn push_stmt(ranges: &mut Vec<bool>, stmt: &Stmt) -> Result<(), AllocError>
+    ensures { OnOk result ((rest : BlockTree) → ranges.new.items ++ range_list rest
+        ≡ ranges.old.items ++ range_list (with_stmt stmt.now rest)) }
 {
     match stmt {
         Stmt::Branch {
@@ -20,15 +20,15 @@ fn push_stmt(marks: &mut Vec<bool>, stmt: &Stmt) -> Result<(), AllocError>
             otherwise,
             ..
         } => {
-            marks.push(false)?;
-            push_block(marks, then)?;
-            push_block(marks, otherwise)?;
+            ranges.push(false)?;
+            push_block(ranges, then)?;
+            push_block(ranges, otherwise)?;
         }
         Stmt::Each { body, .. } => {
-            marks.push(true)?;
-            push_block(marks, body)?;
+            ranges.push(true)?;
+            push_block(ranges, body)?;
         }
-        Stmt::Count { .. } | Stmt::Sum { .. } => marks.push(true)?,
+        Stmt::Count { .. } | Stmt::Sum { .. } => ranges.push(true)?,
         Stmt::Bind { .. }
         | Stmt::Get { .. }
         | Stmt::Need { .. }
@@ -38,19 +38,19 @@ fn push_stmt(marks: &mut Vec<bool>, stmt: &Stmt) -> Result<(), AllocError>
         | Stmt::Delete { .. }
         | Stmt::Keep { .. }
         | Stmt::Reply { .. }
-        | Stmt::Abort => marks.push(false)?,
+        | Stmt::Abort => ranges.push(false)?,
     }
     Ok(())
 }
 
 /// Adds for each statement of a block whether it is a range.
-#[cycle(marks)]
-fn push_block(marks: &mut Vec<bool>, block: &Block) -> Result<(), AllocError>
+#[cycle(ranges)]
+fn push_block(ranges: &mut Vec<bool>, block: &Block) -> Result<(), AllocError>
     ensures { OnOk result
-        (marks.new.items ≡ marks.old.items ++ range_marks (block_tree block.now)) }
+        (ranges.new.items ≡ ranges.old.items ++ range_list (block_tree block.now)) }
 {
     for stmt in &block.stmts {
-        push_stmt(marks, stmt)?;
+        push_stmt(ranges, stmt)?;
     }
     Ok(())
 }
@@ -61,20 +61,20 @@ pub(crate) fn ranges_of(
     draft: &Draft,
     program: usize,
 ) -> Result<Vec<bool>, AllocError>
-    ensures { IfOk result (λ marks.
-        marks.items ≡ program_ranges (slice_get (draft_tree draft.now).programs program)) }
+    ensures { IfOk result (λ ranges.
+        ranges.items ≡ program_ranges (slice_get (draft_tree draft.now).programs program)) }
 {
-    let mut marks = Vec::new(alloc);
+    let mut ranges = Vec::new(alloc);
     if program < draft.programs.len() {
-        push_block(&mut marks, &draft.programs[program].body)?;
+        push_block(&mut ranges, &draft.programs[program].body)?;
     }
-    Ok(marks)
+    Ok(ranges)
 }
 
-pub(crate) fn is_range(marks: &[bool], number: usize) -> bool
-    ensures { result ≡ slice_index_or marks.now number false }
+pub(crate) fn is_range(ranges: &[bool], number: usize) -> bool
+    ensures { result ≡ slice_index_or ranges.now number false }
 {
-    marks.get(number).copied().unwrap_or(false)
+    ranges.get(number).copied().unwrap_or(false)
 }
 
 /// Whether the statement of a number of a program is a range.

@@ -7,8 +7,8 @@ use Rattle.prog_paths.specs.declared.accesses.places.Question.{Question}
 use Rattle.prog_paths.proofs.SingleCells.{law_of_single_changes}
 use Rattle.repair_laws.specs.Refusals.{IsRangeAt}
 use Rattle.si_repair.specs.Exposed.{AreExposed, HasBoth}
-use Rattle.si_repair.specs.Obstacles.{program_ranges, IsFirstHindered, IsMarkedAt}
-use Rattle.si_repair.proofs.Marking.{first-alike, mark-from_range_at, range_at-from_mark, HasBoth-each}
+use Rattle.si_repair.specs.Obstacles.{program_ranges, IsFirstHindered, IsRangeIn}
+use Rattle.si_repair.proofs.Obstacles.{first-alike, list-from_range_at, range_at-from_list, HasBoth-each}
 use Rattle.si_repair.proofs.repairs.obstacles.hindered_question.Goals as goal
 
 pub exposed_questions-requires : goal.exposed_questions-requires
@@ -27,12 +27,12 @@ returns c =
     let obstacle = c.args.obstacle in
     let questions = c.in_ok-questions.questions.items in
     let found = c.first_hindered-found.result in
-    let marks = program_ranges (slice_get draft.programs from) in
-    let listed = subst (λ (l : List Question). IsFirstHindered nodes (IsMarkedAt c.deref.result.now) obstacle l found) c.deref-2.ensures.value c.first_hindered-found.ensures in
-    let marked = subst (λ (m : List Bool). IsFirstHindered nodes (IsMarkedAt m) obstacle questions found) (c.deref.ensures.value ∙ c.in_ok-marks.ensures) listed in
+    let ranges = program_ranges (slice_get draft.programs from) in
+    let listed = subst (λ (l : List Question). IsFirstHindered nodes (IsRangeIn c.deref.result.now) obstacle l found) c.deref-2.ensures.value c.first_hindered-found.ensures in
+    let in_list = subst (λ (m : List Bool). IsFirstHindered nodes (IsRangeIn m) obstacle questions found) (c.deref.ensures.value ∙ c.in_ok-ranges.ensures) listed in
     let told =
-    first-alike nodes (IsMarkedAt marks) (IsRangeAt draft from) (λ n h. range_at-from_mark draft from n (slice_get draft.programs from) refl h) (λ n h. mark-from_range_at draft from n h)
-    obstacle questions found marked in (
+    first-alike nodes (IsRangeIn ranges) (IsRangeAt draft from) (λ n h. range_at-from_list draft from n (slice_get draft.programs from) refl h) (λ n h. list-from_range_at draft from n h)
+    obstacle questions found in_list in (
       questions,
       subst (λ (ns : List Path). AreExposed ns c.args.pair questions) c.requires c.in_ok-questions.ensures,
       subst (λ (ns : List Path). IsFirstHindered ns (IsRangeAt draft from) obstacle questions found) c.requires told,

@@ -1,4 +1,4 @@
-use Rattle.si_repair.proofs.Marking.{in_body-sure}
+use Rattle.si_repair.proofs.Obstacles.{in_body-sure}
 use Rattle.si_repair.proofs.repairs.obstacles.is_in_body.Goals as goal
 
 pub returns : goal.returns

@@ -8,7 +8,7 @@ use Rattle.si_repair.specs.declared.repairs.promotion.Covered.{Covered}
 use Rattle.si_repair.specs.Covering.{pairs_of, HasItsQuestions}
 use Rattle.si_repair.specs.Exposed.{AreExposed}
 use Rattle.si_repair.specs.Promoting.{is_marked}
-use Rattle.si_repair.proofs.Marking.{HasRead-each}
+use Rattle.si_repair.proofs.Obstacles.{HasRead-each}
 use Rattle.si_repair.proofs.Marks.{adds-reads, marks-none, marks-more}
 use Rattle.si_repair.proofs.repairs.promotion.marked_statements.Goals as goal
 

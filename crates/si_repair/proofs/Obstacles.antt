@@ -1,4 +1,4 @@
--- Marked statements by their numbers, and exposed reads that no keep covers.
+-- Ranges by the numbers of their statements, and exposed reads that no keep covers.
 use Rattle.std.proofs.Common.{◌≡◌, ◌↔◌, ℕ, zero, suc, ◌+◌, ◌<◌, ◌≤◌, ◌⊎◌, inl, inr, Bool, true, false, not, List, [], ◌∷◌, ◌++◌, length, take, get_or, refl, sym, subst, ap, ◌∙◌, arith, Contains, length-append}
 use Rattle.std.specs.Prelude.{Option, Some, None, is_some, slice_get, All}
 use Rattle.std.proofs.lemmas.Bool.{false≢true}
@@ -17,198 +17,198 @@ use Rattle.repair_laws.specs.declared.plan.Pair.{Pair}
 use Rattle.repair_laws.specs.Keys.{ExposedOf}
 use Rattle.repair_laws.specs.Refusals.{IsStatementAt, IsRange, IsRangeAt, HasUnknownKey, HasRangeRead, HasUnknownRead, HasBodyRead}
 use Rattle.si_repair.specs.Exposed.{AreExposed, HasRead, HasBoth}
-use Rattle.si_repair.specs.Obstacles.{IsObstacle, range_marks, program_ranges, Hinders, HasHindered, IsFirstHindered, IsHindered, IsMarkedAt, obstacle_of}
+use Rattle.si_repair.specs.Obstacles.{IsObstacle, range_list, program_ranges, Hinders, HasHindered, IsFirstHindered, IsHindered, IsRangeIn, obstacle_of}
 use Rattle.si_repair.specs.declared.repairs.obstacles.Obstacle.{Obstacle}
 use Rattle.si_repair.specs.declared.repairs.obstacles.Obstacle.TheVariants.{RangeRead, UnknownKey, BodyRead}
 use Rattle.si_repair.proofs.Exposed.{nothing, among_first}
 
 -- ---- statements
 
--- a marked statement of a block
-record MarkedAt (first : ℕ) (b : BlockTree) (number : ℕ) : Type 0 where
+-- a statement of a block that is a range
+record RangeFrom (first : ℕ) (b : BlockTree) (number : ℕ) : Type 0 where
   statement : StatementTree
   at : IsStatementAt first b number statement
   range : IsRange statement
 
-marks-length : (b : BlockTree) → length (range_marks b) ≡ statement_count b
-marks-length BlockEnd = refl
-marks-length (Then st rest) = let r = marks-length rest in omega (arith, r)
-marks-length (Branch test a b rest) =
-    let x = marks-length a in
-    let y = marks-length b in
-    let z = marks-length rest in
-    omega (arith, x, y, z, length-append (range_marks a) (range_marks b ++ range_marks rest), length-append (range_marks b) (range_marks rest))
-marks-length (Each l body rest) =
-    let x = marks-length body in
-    let y = marks-length rest in
-    omega (arith, x, y, length-append (range_marks body) (range_marks rest))
+list-length : (b : BlockTree) → length (range_list b) ≡ statement_count b
+list-length BlockEnd = refl
+list-length (Then st rest) = let r = list-length rest in omega (arith, r)
+list-length (Branch test a b rest) =
+    let x = list-length a in
+    let y = list-length b in
+    let z = list-length rest in
+    omega (arith, x, y, z, length-append (range_list a) (range_list b ++ range_list rest), length-append (range_list b) (range_list rest))
+list-length (Each l body rest) =
+    let x = list-length body in
+    let y = list-length rest in
+    omega (arith, x, y, length-append (range_list body) (range_list rest))
 
--- a mark of two lists together is one of the first or one of the second
-either_marked : (xs ys : List Bool) (n : ℕ) → get_or (xs ++ ys) n false ≡ true → ((n < length xs) × (get_or xs n false ≡ true)) ⊎ ((k : ℕ) × (n ≡ length xs + k) × (get_or ys k false ≡ true))
-either_marked [] ys n h = inr (n, omega arith, h)
-either_marked (x ∷ xs) ys zero h = inl (omega arith, h)
-either_marked (x ∷ xs) ys (suc n) h = go (either_marked xs ys n h)
+-- what two lists say together the first says, or the second
+either_listed : (xs ys : List Bool) (n : ℕ) → get_or (xs ++ ys) n false ≡ true → ((n < length xs) × (get_or xs n false ≡ true)) ⊎ ((k : ℕ) × (n ≡ length xs + k) × (get_or ys k false ≡ true))
+either_listed [] ys n h = inr (n, omega arith, h)
+either_listed (x ∷ xs) ys zero h = inl (omega arith, h)
+either_listed (x ∷ xs) ys (suc n) h = go (either_listed xs ys n h)
   where
     go : ((n < length xs) × (get_or xs n false ≡ true)) ⊎ ((k : ℕ) × (n ≡ length xs + k) × (get_or ys k false ≡ true)) → ((suc n < length (x ∷ xs)) × (get_or xs n false ≡ true)) ⊎ ((k : ℕ) × (suc n ≡ length (x ∷ xs) + k) × (get_or ys k false ≡ true))
     go (inl k) = let less = k.0 in inl (omega (arith, less), k.1)
     go (inr k) = let is = k.1 in inr (k.0, omega (arith, is), k.2)
 
-marked_left : (xs ys : List Bool) (n : ℕ) → get_or xs n false ≡ true → get_or (xs ++ ys) n false ≡ true
-marked_left [] ys n h = absurd (false≢true h)
-marked_left (x ∷ xs) ys zero h = h
-marked_left (x ∷ xs) ys (suc n) h = marked_left xs ys n h
+listed_left : (xs ys : List Bool) (n : ℕ) → get_or xs n false ≡ true → get_or (xs ++ ys) n false ≡ true
+listed_left [] ys n h = absurd (false≢true h)
+listed_left (x ∷ xs) ys zero h = h
+listed_left (x ∷ xs) ys (suc n) h = listed_left xs ys n h
 
-marked_right : (xs ys : List Bool) (n : ℕ) → get_or ys n false ≡ true → get_or (xs ++ ys) (length xs + n) false ≡ true
-marked_right [] ys n h = let e : 0 + n ≡ n = omega arith in ap (λ (k : ℕ). get_or ys k false) e ∙ h
-marked_right (x ∷ xs) ys n h = let e : length (x ∷ xs) + n ≡ suc (length xs + n) = omega arith in ap (λ (k : ℕ). get_or (x ∷ (xs ++ ys)) k false) e ∙ marked_right xs ys n h
+listed_right : (xs ys : List Bool) (n : ℕ) → get_or ys n false ≡ true → get_or (xs ++ ys) (length xs + n) false ≡ true
+listed_right [] ys n h = let e : 0 + n ≡ n = omega arith in ap (λ (k : ℕ). get_or ys k false) e ∙ h
+listed_right (x ∷ xs) ys n h = let e : length (x ∷ xs) + n ≡ suc (length xs + n) = omega arith in ap (λ (k : ℕ). get_or (x ∷ (xs ++ ys)) k false) e ∙ listed_right xs ys n h
 
--- the marks of a branch, pushed one part after the other
-pub branch_marks : (old one two three xs ys zs : List Bool) → one ≡ old ++ false ∷ [] → two ≡ one ++ xs → three ≡ two ++ ys → three ++ zs ≡ old ++ (false ∷ (xs ++ (ys ++ zs)))
-branch_marks old one two three xs ys zs a b c =
+-- the list of a branch, pushed one part after the other
+pub branch_ranges : (old one two three xs ys zs : List Bool) → one ≡ old ++ false ∷ [] → two ≡ one ++ xs → three ≡ two ++ ys → three ++ zs ≡ old ++ (false ∷ (xs ++ (ys ++ zs)))
+branch_ranges old one two three xs ys zs a b c =
     ap (λ (l : List Bool). l ++ zs) (c ∙ ap (λ (l : List Bool). l ++ ys) (b ∙ ap (λ (l : List Bool). l ++ xs) a)) ∙ simp append_assoc
 
 -- the same of an `each`
-pub each_marks : (old one two xs ys : List Bool) → one ≡ old ++ true ∷ [] → two ≡ one ++ xs → two ++ ys ≡ old ++ (true ∷ (xs ++ ys))
-each_marks old one two xs ys a b = ap (λ (l : List Bool). l ++ ys) (b ∙ ap (λ (l : List Bool). l ++ xs) a) ∙ simp append_assoc
+pub each_ranges : (old one two xs ys : List Bool) → one ≡ old ++ true ∷ [] → two ≡ one ++ xs → two ++ ys ≡ old ++ (true ∷ (xs ++ ys))
+each_ranges old one two xs ys a b = ap (λ (l : List Bool). l ++ ys) (b ∙ ap (λ (l : List Bool). l ++ xs) a) ∙ simp append_assoc
 
--- what is marked is a range at its number
-statement-from_mark : (first : ℕ) (b : BlockTree) (n : ℕ) → get_or (range_marks b) n false ≡ true → MarkedAt first b (first + n)
-statement-from_mark first BlockEnd n h = absurd (false≢true h)
-statement-from_mark first (Then st rest) zero h =
+-- what is listed as a range is one at its number
+statement-from_list : (first : ℕ) (b : BlockTree) (n : ℕ) → get_or (range_list b) n false ≡ true → RangeFrom first b (first + n)
+statement-from_list first BlockEnd n h = absurd (false≢true h)
+statement-from_list first (Then st rest) zero h =
     let e : first + 0 ≡ first = omega arith in
     record { statement = st; at = inl (e, refl); range = h }
-statement-from_mark first (Then st rest) (suc n) h =
+statement-from_list first (Then st rest) (suc n) h =
     let e : first + 1 + n ≡ first + suc n = omega arith in
-    let m = subst (λ (k : ℕ). MarkedAt (first + 1) rest k) e (statement-from_mark (first + 1) rest n h) in
+    let m = subst (λ (k : ℕ). RangeFrom (first + 1) rest k) e (statement-from_list (first + 1) rest n h) in
     record { statement = m.statement; at = inr m.at; range = m.range }
-statement-from_mark first (Branch test a b rest) zero h = absurd (false≢true h)
-statement-from_mark first (Branch test a b rest) (suc n) h =
-    go (either_marked (range_marks a) (range_marks b ++ range_marks rest) n h)
-    (λ k i. statement-from_mark (first + 1) a k i)
-    (λ k i. statement-from_mark (first + 1 + statement_count a) b k i)
-    (λ k i. statement-from_mark (first + 1 + statement_count a + statement_count b) rest k i)
+statement-from_list first (Branch test a b rest) zero h = absurd (false≢true h)
+statement-from_list first (Branch test a b rest) (suc n) h =
+    go (either_listed (range_list a) (range_list b ++ range_list rest) n h)
+    (λ k i. statement-from_list (first + 1) a k i)
+    (λ k i. statement-from_list (first + 1 + statement_count a) b k i)
+    (λ k i. statement-from_list (first + 1 + statement_count a + statement_count b) rest k i)
   where
-    in_first : MarkedAt (first + 1) a (first + suc n) → MarkedAt first (Branch test a b rest) (first + suc n)
+    in_first : RangeFrom (first + 1) a (first + suc n) → RangeFrom first (Branch test a b rest) (first + suc n)
     in_first m = record { statement = m.statement; at = inl m.at; range = m.range }
 
-    in_second : MarkedAt (first + 1 + statement_count a) b (first + suc n) → MarkedAt first (Branch test a b rest) (first + suc n)
+    in_second : RangeFrom (first + 1 + statement_count a) b (first + suc n) → RangeFrom first (Branch test a b rest) (first + suc n)
     in_second m = record { statement = m.statement; at = inr (inl m.at); range = m.range }
 
-    in_rest : MarkedAt (first + 1 + statement_count a + statement_count b) rest (first + suc n) → MarkedAt first (Branch test a b rest) (first + suc n)
+    in_rest : RangeFrom (first + 1 + statement_count a + statement_count b) rest (first + suc n) → RangeFrom first (Branch test a b rest) (first + suc n)
     in_rest m = record { statement = m.statement; at = inr (inr m.at); range = m.range }
 
-    behind : (k : ℕ) → n ≡ length (range_marks a) + k
-        → ((i : ℕ) → get_or (range_marks b) i false ≡ true → MarkedAt (first + 1 + statement_count a) b (first + 1 + statement_count a + i))
-        → ((i : ℕ) → get_or (range_marks rest) i false ≡ true → MarkedAt (first + 1 + statement_count a + statement_count b) rest (first + 1 + statement_count a + statement_count b + i))
-        → ((k < length (range_marks b)) × (get_or (range_marks b) k false ≡ true)) ⊎ ((i : ℕ) × (k ≡ length (range_marks b) + i) × (get_or (range_marks rest) i false ≡ true))
-        → MarkedAt first (Branch test a b rest) (first + suc n)
+    behind : (k : ℕ) → n ≡ length (range_list a) + k
+        → ((i : ℕ) → get_or (range_list b) i false ≡ true → RangeFrom (first + 1 + statement_count a) b (first + 1 + statement_count a + i))
+        → ((i : ℕ) → get_or (range_list rest) i false ≡ true → RangeFrom (first + 1 + statement_count a + statement_count b) rest (first + 1 + statement_count a + statement_count b + i))
+        → ((k < length (range_list b)) × (get_or (range_list b) k false ≡ true)) ⊎ ((i : ℕ) × (k ≡ length (range_list b) + i) × (get_or (range_list rest) i false ≡ true))
+        → RangeFrom first (Branch test a b rest) (first + suc n)
     behind k is second last (inl i) =
-        let sizes = marks-length a in
+        let sizes = list-length a in
         let e : first + 1 + statement_count a + k ≡ first + suc n = omega (arith, is, sizes) in
-        in_second (subst (λ (m : ℕ). MarkedAt (first + 1 + statement_count a) b m) e (second k i.1))
+        in_second (subst (λ (m : ℕ). RangeFrom (first + 1 + statement_count a) b m) e (second k i.1))
     behind k is second last (inr i) =
-        let sizes = marks-length a in
-        let more = marks-length b in
+        let sizes = list-length a in
+        let more = list-length b in
         let at = i.1 in
         let e : first + 1 + statement_count a + statement_count b + i.0 ≡ first + suc n = omega (arith, is, sizes, more, at) in
-        in_rest (subst (λ (m : ℕ). MarkedAt (first + 1 + statement_count a + statement_count b) rest m) e (last i.0 i.2))
+        in_rest (subst (λ (m : ℕ). RangeFrom (first + 1 + statement_count a + statement_count b) rest m) e (last i.0 i.2))
 
-    go : ((n < length (range_marks a)) × (get_or (range_marks a) n false ≡ true)) ⊎ ((k : ℕ) × (n ≡ length (range_marks a) + k) × (get_or (range_marks b ++ range_marks rest) k false ≡ true))
-        → ((k : ℕ) → get_or (range_marks a) k false ≡ true → MarkedAt (first + 1) a (first + 1 + k))
-        → ((k : ℕ) → get_or (range_marks b) k false ≡ true → MarkedAt (first + 1 + statement_count a) b (first + 1 + statement_count a + k))
-        → ((k : ℕ) → get_or (range_marks rest) k false ≡ true → MarkedAt (first + 1 + statement_count a + statement_count b) rest (first + 1 + statement_count a + statement_count b + k))
-        → MarkedAt first (Branch test a b rest) (first + suc n)
+    go : ((n < length (range_list a)) × (get_or (range_list a) n false ≡ true)) ⊎ ((k : ℕ) × (n ≡ length (range_list a) + k) × (get_or (range_list b ++ range_list rest) k false ≡ true))
+        → ((k : ℕ) → get_or (range_list a) k false ≡ true → RangeFrom (first + 1) a (first + 1 + k))
+        → ((k : ℕ) → get_or (range_list b) k false ≡ true → RangeFrom (first + 1 + statement_count a) b (first + 1 + statement_count a + k))
+        → ((k : ℕ) → get_or (range_list rest) k false ≡ true → RangeFrom (first + 1 + statement_count a + statement_count b) rest (first + 1 + statement_count a + statement_count b + k))
+        → RangeFrom first (Branch test a b rest) (first + suc n)
     go (inl i) one two three =
         let e : first + 1 + n ≡ first + suc n = omega arith in
-        in_first (subst (λ (m : ℕ). MarkedAt (first + 1) a m) e (one n i.1))
-    go (inr i) one two three = behind i.0 i.1 two three (either_marked (range_marks b) (range_marks rest) i.0 i.2)
-statement-from_mark first (Each l body rest) zero h =
+        in_first (subst (λ (m : ℕ). RangeFrom (first + 1) a m) e (one n i.1))
+    go (inr i) one two three = behind i.0 i.1 two three (either_listed (range_list b) (range_list rest) i.0 i.2)
+statement-from_list first (Each l body rest) zero h =
     let e : first + 0 ≡ first = omega arith in
     record { statement = as_count l; at = inl (e, refl); range = refl }
-statement-from_mark first (Each l body rest) (suc n) h =
-    go (either_marked (range_marks body) (range_marks rest) n h)
-    (λ k i. statement-from_mark (first + 1) body k i)
-    (λ k i. statement-from_mark (first + 1 + statement_count body) rest k i)
+statement-from_list first (Each l body rest) (suc n) h =
+    go (either_listed (range_list body) (range_list rest) n h)
+    (λ k i. statement-from_list (first + 1) body k i)
+    (λ k i. statement-from_list (first + 1 + statement_count body) rest k i)
   where
-    in_body : MarkedAt (first + 1) body (first + suc n) → MarkedAt first (Each l body rest) (first + suc n)
+    in_body : RangeFrom (first + 1) body (first + suc n) → RangeFrom first (Each l body rest) (first + suc n)
     in_body m = record { statement = m.statement; at = inr (inl m.at); range = m.range }
 
-    in_rest : MarkedAt (first + 1 + statement_count body) rest (first + suc n) → MarkedAt first (Each l body rest) (first + suc n)
+    in_rest : RangeFrom (first + 1 + statement_count body) rest (first + suc n) → RangeFrom first (Each l body rest) (first + suc n)
     in_rest m = record { statement = m.statement; at = inr (inr m.at); range = m.range }
 
-    go : ((n < length (range_marks body)) × (get_or (range_marks body) n false ≡ true)) ⊎ ((k : ℕ) × (n ≡ length (range_marks body) + k) × (get_or (range_marks rest) k false ≡ true))
-        → ((k : ℕ) → get_or (range_marks body) k false ≡ true → MarkedAt (first + 1) body (first + 1 + k))
-        → ((k : ℕ) → get_or (range_marks rest) k false ≡ true → MarkedAt (first + 1 + statement_count body) rest (first + 1 + statement_count body + k))
-        → MarkedAt first (Each l body rest) (first + suc n)
+    go : ((n < length (range_list body)) × (get_or (range_list body) n false ≡ true)) ⊎ ((k : ℕ) × (n ≡ length (range_list body) + k) × (get_or (range_list rest) k false ≡ true))
+        → ((k : ℕ) → get_or (range_list body) k false ≡ true → RangeFrom (first + 1) body (first + 1 + k))
+        → ((k : ℕ) → get_or (range_list rest) k false ≡ true → RangeFrom (first + 1 + statement_count body) rest (first + 1 + statement_count body + k))
+        → RangeFrom first (Each l body rest) (first + suc n)
     go (inl i) one two =
         let e : first + 1 + n ≡ first + suc n = omega arith in
-        in_body (subst (λ (m : ℕ). MarkedAt (first + 1) body m) e (one n i.1))
+        in_body (subst (λ (m : ℕ). RangeFrom (first + 1) body m) e (one n i.1))
     go (inr i) one two =
-        let sizes = marks-length body in
+        let sizes = list-length body in
         let at = i.1 in
         let e : first + 1 + statement_count body + i.0 ≡ first + suc n = omega (arith, sizes, at) in
-        in_rest (subst (λ (m : ℕ). MarkedAt (first + 1 + statement_count body) rest m) e (two i.0 i.2))
+        in_rest (subst (λ (m : ℕ). RangeFrom (first + 1 + statement_count body) rest m) e (two i.0 i.2))
 
--- a range at its number is marked
-abbrev IsMarkedFrom : ℕ → BlockTree → ℕ → Type 0
-IsMarkedFrom first b number = (k : ℕ) × (number ≡ first + k) × (get_or (range_marks b) k false ≡ true)
+-- a range at its number is listed as one
+abbrev IsListedFrom : ℕ → BlockTree → ℕ → Type 0
+IsListedFrom first b number = (k : ℕ) × (number ≡ first + k) × (get_or (range_list b) k false ≡ true)
 
-mark-from_statement : (first : ℕ) (b : BlockTree) (number : ℕ) (st : StatementTree) → IsStatementAt first b number st → IsRange st → IsMarkedFrom first b number
-mark-from_statement first BlockEnd number st h r = absurd h
-mark-from_statement first (Then t rest) number st (inl h) r =
+list-from_statement : (first : ℕ) (b : BlockTree) (number : ℕ) (st : StatementTree) → IsStatementAt first b number st → IsRange st → IsListedFrom first b number
+list-from_statement first BlockEnd number st h r = absurd h
+list-from_statement first (Then t rest) number st (inl h) r =
     let is = h.0 in
     (0, omega (arith, is), subst IsRange h.1 r)
-mark-from_statement first (Then t rest) number st (inr h) r =
-    let m = mark-from_statement (first + 1) rest number st h r in
+list-from_statement first (Then t rest) number st (inr h) r =
+    let m = list-from_statement (first + 1) rest number st h r in
     let is = m.1 in
     (suc m.0, omega (arith, is), m.2)
-mark-from_statement first (Branch test a b rest) number st (inl h) r =
-    let m = mark-from_statement (first + 1) a number st h r in
+list-from_statement first (Branch test a b rest) number st (inl h) r =
+    let m = list-from_statement (first + 1) a number st h r in
     let is = m.1 in
-    (suc m.0, omega (arith, is), marked_left (range_marks a) (range_marks b ++ range_marks rest) m.0 m.2)
-mark-from_statement first (Branch test a b rest) number st (inr (inl h)) r =
-    let m = mark-from_statement (first + 1 + statement_count a) b number st h r in
+    (suc m.0, omega (arith, is), listed_left (range_list a) (range_list b ++ range_list rest) m.0 m.2)
+list-from_statement first (Branch test a b rest) number st (inr (inl h)) r =
+    let m = list-from_statement (first + 1 + statement_count a) b number st h r in
     let is = m.1 in
-    let sizes = marks-length a in
-    (suc (length (range_marks a) + m.0), omega (arith, is, sizes), marked_right (range_marks a) (range_marks b ++ range_marks rest) m.0 (marked_left (range_marks b) (range_marks rest) m.0 m.2))
-mark-from_statement first (Branch test a b rest) number st (inr (inr h)) r =
-    let m = mark-from_statement (first + 1 + statement_count a + statement_count b) rest number st h r in
+    let sizes = list-length a in
+    (suc (length (range_list a) + m.0), omega (arith, is, sizes), listed_right (range_list a) (range_list b ++ range_list rest) m.0 (listed_left (range_list b) (range_list rest) m.0 m.2))
+list-from_statement first (Branch test a b rest) number st (inr (inr h)) r =
+    let m = list-from_statement (first + 1 + statement_count a + statement_count b) rest number st h r in
     let is = m.1 in
-    let sizes = marks-length a in
-    let more = marks-length b in (
-      suc (length (range_marks a) + (length (range_marks b) + m.0)),
+    let sizes = list-length a in
+    let more = list-length b in (
+      suc (length (range_list a) + (length (range_list b) + m.0)),
       omega (arith, is, sizes, more),
-      marked_right (range_marks a) (range_marks b ++ range_marks rest) (length (range_marks b) + m.0) (marked_right (range_marks b) (range_marks rest) m.0 m.2),
+      listed_right (range_list a) (range_list b ++ range_list rest) (length (range_list b) + m.0) (listed_right (range_list b) (range_list rest) m.0 m.2),
     )
-mark-from_statement first (Each l body rest) number st (inl h) r =
+list-from_statement first (Each l body rest) number st (inl h) r =
     let is = h.0 in
     (0, omega (arith, is), refl)
-mark-from_statement first (Each l body rest) number st (inr (inl h)) r =
-    let m = mark-from_statement (first + 1) body number st h r in
+list-from_statement first (Each l body rest) number st (inr (inl h)) r =
+    let m = list-from_statement (first + 1) body number st h r in
     let is = m.1 in
-    (suc m.0, omega (arith, is), marked_left (range_marks body) (range_marks rest) m.0 m.2)
-mark-from_statement first (Each l body rest) number st (inr (inr h)) r =
-    let m = mark-from_statement (first + 1 + statement_count body) rest number st h r in
+    (suc m.0, omega (arith, is), listed_left (range_list body) (range_list rest) m.0 m.2)
+list-from_statement first (Each l body rest) number st (inr (inr h)) r =
+    let m = list-from_statement (first + 1 + statement_count body) rest number st h r in
     let is = m.1 in
-    let sizes = marks-length body in
-    (suc (length (range_marks body) + m.0), omega (arith, is, sizes), marked_right (range_marks body) (range_marks rest) m.0 m.2)
+    let sizes = list-length body in
+    (suc (length (range_list body) + m.0), omega (arith, is, sizes), listed_right (range_list body) (range_list rest) m.0 m.2)
 
 -- ---- the statement of a number
 
 module _ (draft : DraftTree) (program number : ℕ) where
-  pub range_at-from_mark : (o : Option ProgramTree) → slice_get draft.programs program ≡ o → get_or (program_ranges o) number false ≡ true → IsRangeAt draft program number
-  range_at-from_mark None at h = absurd (false≢true h)
-  range_at-from_mark (Some p) at h =
+  pub range_at-from_list : (o : Option ProgramTree) → slice_get draft.programs program ≡ o → get_or (program_ranges o) number false ≡ true → IsRangeAt draft program number
+  range_at-from_list None at h = absurd (false≢true h)
+  range_at-from_list (Some p) at h =
       let e : 0 + number ≡ number = omega arith in
-      let m = subst (λ (k : ℕ). MarkedAt 0 p.body k) e (statement-from_mark 0 p.body number h) in
+      let m = subst (λ (k : ℕ). RangeFrom 0 p.body k) e (statement-from_list 0 p.body number h) in
       (p, at, m.statement, m.at, m.range)
 
-  pub mark-from_range_at : IsRangeAt draft program number → get_or (program_ranges (slice_get draft.programs program)) number false ≡ true
-  mark-from_range_at (p, at, st, here, range) =
-      let m = mark-from_statement 0 p.body number st here range in
+  pub list-from_range_at : IsRangeAt draft program number → get_or (program_ranges (slice_get draft.programs program)) number false ≡ true
+  list-from_range_at (p, at, st, here, range) =
+      let m = list-from_statement 0 p.body number st here range in
       let is = m.1 in
       let same : m.0 ≡ number = omega (arith, is) in
-      subst (λ (o : Option ProgramTree). get_or (program_ranges o) number false ≡ true) (sym at) (subst (λ (k : ℕ). get_or (range_marks p.body) k false ≡ true) same m.2)
+      subst (λ (o : Option ProgramTree). get_or (program_ranges o) number false ≡ true) (sym at) (subst (λ (k : ℕ). get_or (range_list p.body) k false ≡ true) same m.2)
 
 -- ---- reads among questions
 
@@ -307,25 +307,25 @@ module _ (draft : DraftTree) (nodes : List Path) (is : nodes ≡ paths_of draft)
         },
       )
 
-  module _ (marks : List Bool) (marks_are : marks ≡ program_ranges (slice_get draft.programs pair.from)) where
+  module _ (list : List Bool) (list_is : list ≡ program_ranges (slice_get draft.programs pair.from)) where
     abbrev RangeReadOf : List Path → Type 0
     RangeReadOf ns = (e : ExposedOf ns pair) × IsRangeAt draft pair.from e.question.mine.place
 
-    range-from_marks : HasHindered nodes (IsMarkedAt marks) RangeRead qs → HasRangeRead draft pair
-    range-from_marks h =
-        let o = of_hindered (IsMarkedAt marks) RangeRead h in
+    range-from_list : HasHindered nodes (IsRangeIn list) RangeRead qs → HasRangeRead draft pair
+    range-from_list h =
+        let o = of_hindered (IsRangeIn list) RangeRead h in
         let place = o.0.question.mine.place in
-        let r = range_at-from_mark draft pair.from place (slice_get draft.programs pair.from) refl (subst (λ (m : List Bool). get_or m place false ≡ true) marks_are o.1) in
+        let r = range_at-from_list draft pair.from place (slice_get draft.programs pair.from) refl (subst (λ (m : List Bool). get_or m place false ≡ true) list_is o.1) in
         subst RangeReadOf is (o.0, r)
 
-    marks-from_range : HasRangeRead draft pair → HasHindered nodes (IsMarkedAt marks) RangeRead qs
-    marks-from_range h = go (subst RangeReadOf (sym is) h)
+    list-from_range : HasRangeRead draft pair → HasHindered nodes (IsRangeIn list) RangeRead qs
+    list-from_range h = go (subst RangeReadOf (sym is) h)
       where
-        go : RangeReadOf nodes → HasHindered nodes (IsMarkedAt marks) RangeRead qs
+        go : RangeReadOf nodes → HasHindered nodes (IsRangeIn list) RangeRead qs
         go (e, range) =
             let place = e.question.mine.place in
-            hindered_of (IsMarkedAt marks) RangeRead e
-            (subst (λ (m : List Bool). get_or m place false ≡ true) (sym marks_are) (mark-from_range_at draft pair.from place range))
+            hindered_of (IsRangeIn list) RangeRead e
+            (subst (λ (m : List Bool). get_or m place false ≡ true) (sym list_is) (list-from_range_at draft pair.from place range))
 
   abbrev UnknownReadOf : List Path → Type 0
   UnknownReadOf ns = (e : ExposedOf ns pair) × HasUnknownKey e.question.mine
@@ -346,11 +346,11 @@ module _ (draft : DraftTree) (nodes : List Path) (is : nodes ≡ paths_of draft)
   meets-from_body ranges h = let o = subst BodyReadOf (sym is) h in hindered_of ranges BodyRead o.0 o.1
 
   -- what the three tests find is the first obstacle
-  module _ (marks : List Bool) (are : marks ≡ program_ranges (slice_get draft.programs pair.from)) where
-    pub IsObstacle-first : (reads_range reads_unknown in_body : Bool) → (reads_range ≡ true) ↔ HasHindered nodes (IsMarkedAt marks) RangeRead qs → (reads_unknown ≡ true) ↔ HasHindered nodes (IsMarkedAt marks) UnknownKey qs → (in_body ≡ true) ↔ HasHindered nodes (IsMarkedAt marks) BodyRead qs → IsObstacle draft pair (obstacle_of reads_range reads_unknown in_body)
-    IsObstacle-first true u b range unknown meets = range-from_marks marks are (range.0 refl)
-    IsObstacle-first false true b range unknown meets = (λ h. false≢true (range.1 (marks-from_range marks are h)), unknown-from_reads (IsMarkedAt marks) (unknown.0 refl))
+  module _ (list : List Bool) (are : list ≡ program_ranges (slice_get draft.programs pair.from)) where
+    pub IsObstacle-first : (reads_range reads_unknown in_body : Bool) → (reads_range ≡ true) ↔ HasHindered nodes (IsRangeIn list) RangeRead qs → (reads_unknown ≡ true) ↔ HasHindered nodes (IsRangeIn list) UnknownKey qs → (in_body ≡ true) ↔ HasHindered nodes (IsRangeIn list) BodyRead qs → IsObstacle draft pair (obstacle_of reads_range reads_unknown in_body)
+    IsObstacle-first true u b range unknown meets = range-from_list list are (range.0 refl)
+    IsObstacle-first false true b range unknown meets = (λ h. false≢true (range.1 (list-from_range list are h)), unknown-from_reads (IsRangeIn list) (unknown.0 refl))
     IsObstacle-first false false true range unknown meets =
-        (λ h. false≢true (range.1 (marks-from_range marks are h)), λ h. false≢true (unknown.1 (reads-from_unknown (IsMarkedAt marks) h)), body-from_meets (IsMarkedAt marks) (meets.0 refl))
+        (λ h. false≢true (range.1 (list-from_range list are h)), λ h. false≢true (unknown.1 (reads-from_unknown (IsRangeIn list) h)), body-from_meets (IsRangeIn list) (meets.0 refl))
     IsObstacle-first false false false range unknown meets =
-        (λ h. false≢true (range.1 (marks-from_range marks are h)), λ h. false≢true (unknown.1 (reads-from_unknown (IsMarkedAt marks) h)), λ h. false≢true (meets.1 (meets-from_body (IsMarkedAt marks) h)))
+        (λ h. false≢true (range.1 (list-from_range list are h)), λ h. false≢true (unknown.1 (reads-from_unknown (IsRangeIn list) h)), λ h. false≢true (meets.1 (meets-from_body (IsRangeIn list) h)))
