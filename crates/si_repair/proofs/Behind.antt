@@ -15,7 +15,7 @@ use Rattle.prog_check.specs.Paths.{statement_count}
 use Rattle.prog_check.specs.Sound.{IsSound}
 use Rattle.repair_laws.specs.Materialised.{in_front}
 use Rattle.repair_laws.specs.Promoted.{keep_of, with_keeps, all_with_keeps, promoted_by}
-use Rattle.si_repair.specs.Promoting.{cell_read_by, count_by, with_keeps_in, HasFewStatements}
+use Rattle.si_repair.specs.Behind.{cell_read_by, count_by, with_keeps_in, HasFewStatements}
 
 -- nothing in front, whatever is marked
 nothing_in_front : (b : Bool) (rest : BlockTree) → in_front (if b then [] else []) rest ≡ rest

@@ -21,4 +21,4 @@ pub mod Fewer
 pub mod NewTables
 pub mod Behind
 pub mod Marks
-pub mod Covering
+pub mod Promotion

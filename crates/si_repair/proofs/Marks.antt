@@ -14,7 +14,7 @@ use Rattle.repair_laws.specs.declared.plan.Pair.{Pair}
 use Rattle.repair_laws.specs.Keys.{ExposedOf}
 use Rattle.repair_laws.specs.Promoted.{IsExposedAt, MarksExposed}
 use Rattle.si_repair.specs.Exposed.{AreExposed}
-use Rattle.si_repair.specs.Promoting.{place_in, access_at, place_of, reads_at}
+use Rattle.si_repair.specs.Marks.{place_in, access_at, place_of, reads_at}
 
 -- ---- the statement of a question
 

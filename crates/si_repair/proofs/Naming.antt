@@ -18,7 +18,7 @@ use Rattle.prog_check.proofs.NameLemmas.{list_any-map}
 use Rattle.repair_laws.specs.declared.plan.NewTable.{NewTable}
 use Rattle.repair_laws.specs.Materialised.{mat_name, IsLeastFree}
 use Rattle.repair_laws.proofs.PathLaws.{has_place}
-use Rattle.si_repair.specs.Front.{new_names, taken_names}
+use Rattle.si_repair.specs.Names.{new_names, taken_names}
 
 -- ---- names that are taken
 

@@ -23,7 +23,7 @@ use Rattle.repair_laws.specs.Refusals as why
 use Rattle.repair_laws.proofs.Materialising.{law_of_materialising}
 use Rattle.repair_laws.proofs.RightLaws.{law_of_repair_sizes}
 use Rattle.si_repair.specs.declared.repairs.fault.RepairFault.TheVariants as fault
-use Rattle.si_repair.specs.Front.{new_names, taken_names}
+use Rattle.si_repair.specs.Names.{new_names, taken_names}
 use Rattle.si_repair.specs.Checking.{IsRefused}
 use Rattle.si_repair.specs.Repairing.{IsSafeRepair, StopsNowhere, IsRepairFault}
 use Rattle.si_repair.proofs.Fewer.{fewer_met_small}

@@ -1,4 +1,4 @@
--- What a certificate tells of the entries of a table, and why a set is not analysed.
+-- What a certificate tells of the entries of a table.
 use Rattle.std.specs.Prelude.{◌≡◌, ℕ, List, [], ◌∷◌, length, All, if◌then◌else◌}
 use Rattle.std.specs.List.{flat_map}
 use Rattle.order_facts.specs.declared.steps.Node.{Node}
@@ -8,8 +8,6 @@ use Rattle.prog_paths.specs.Few.{AreFew}
 use Rattle.prog_paths.specs.declared.accesses.places.Question.{Question as Asked}
 use Rattle.conflict_pairs.specs.declared.verdicts.Verdict.{Verdict}
 use Rattle.conflict_pairs.specs.declared.verdicts.Verdict.TheVariants.{Apart, Covered, Exposed}
-use Rattle.conflict_pairs.specs.declared.fault.PairFault.{PairFault}
-use Rattle.conflict_pairs.specs.declared.fault.PairFault as pairs
 use Rattle.conflict_pairs.specs.Interning.{AreInterned}
 use Rattle.conflict_pairs.specs.Table.{Judged, Table, StandsFor}
 use Rattle.conflict_pairs.specs.Verdicts.{is_exposed}
@@ -20,14 +18,7 @@ use Rattle.robust_cert.specs.declared.entries.Told.{Told}
 use Rattle.robust_cert.specs.Ranges.{IsSmall, IsOfSmall}
 use Rattle.robust_cert.specs.Json.{QuestionFits}
 use Rattle.robust_cert.specs.Sharing.{Entry, entry_with}
-use Rattle.si_repair.specs.declared.fault.AnalyseFault.{AnalyseFault}
-use Rattle.si_repair.specs.declared.fault.AnalyseFault as faults
 use Rattle.si_repair.specs.Findings.{AreCounted}
-
--- why a set is not analysed whose questions have no table
-abbrev pub fault_of : PairFault → AnalyseFault
-fault_of pairs.TheVariants.TooLarge = faults.TheVariants.TooLarge
-fault_of pairs.TheVariants.Memory = faults.TheVariants.Memory
 
 -- ---- entries
 

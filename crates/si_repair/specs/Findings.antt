@@ -1,4 +1,4 @@
--- What an analysis has to find of a list of paths.
+-- What an analysis has to find of a list of paths, and why a set is not analysed.
 use Rattle.std.specs.Prelude.{◌⊎◌, ℕ, ◌<◌, ◌≤◌, List, length, slice_index_or, All}
 use Rattle.prog_tree.specs.Syntax.{DraftTree}
 use Rattle.prog_check.specs.declared.path.Access.{Access}
@@ -10,6 +10,8 @@ use Rattle.prog_paths.specs.StaticGraph as graph
 use Rattle.prog_paths.specs.Facts.{question_facts}
 use Rattle.prog_paths.specs.Questions.{IsQuestion, questions_of}
 use Rattle.prog_paths.specs.Limits.{most_questions}
+use Rattle.conflict_pairs.specs.declared.fault.PairFault.{PairFault}
+use Rattle.conflict_pairs.specs.declared.fault.PairFault as pairs
 use Rattle.conflict_pairs.specs.Verdicts.{FallsShortest, IsShortest, IsLeastCover}
 use Rattle.dep_graph.specs.Counting.{IsCountOf}
 use Rattle.dep_graph.specs.Danger.{IsLeastDanger}
@@ -18,6 +20,8 @@ use Rattle.robust_cert.specs.declared.entries.Reason.{Reason}
 use Rattle.robust_cert.specs.declared.entries.Reason.TheVariants.{Apart, Cover}
 use Rattle.robust_cert.specs.Accepted.{question_of, IsTold, IsAccepted}
 use Rattle.robust_cert.specs.Sharing.{Entry}
+use Rattle.si_repair.specs.declared.fault.AnalyseFault.{AnalyseFault}
+use Rattle.si_repair.specs.declared.fault.AnalyseFault as faults
 use Rattle.si_repair.specs.declared.finding.Finding.{Finding}
 use Rattle.si_repair.specs.declared.finding.Finding.TheVariants.{Robust, Refused}
 
@@ -33,6 +37,11 @@ AsksFew draft = length (questions_of (paths_of draft)) ≤ most_questions
 -- it asks more
 abbrev pub AsksTooMany : DraftTree → Type 0
 AsksTooMany draft = most_questions < length (questions_of (paths_of draft))
+
+-- why a set is not analysed whose questions have no table
+abbrev pub fault_of : PairFault → AnalyseFault
+fault_of pairs.TheVariants.TooLarge = faults.TheVariants.TooLarge
+fault_of pairs.TheVariants.Memory = faults.TheVariants.Memory
 
 -- a reason says apart of a question that can't meet, and else names the least cover; its chains have the fewest nodes
 abbrev pub IsOwnReason : List Path → graph.QuestionNumbers → Reason → Type 0

@@ -1,21 +1,8 @@
--- The pairs of a plan as they are carried out, and what a repaired draft has to have to be checked.
-use Rattle.std.specs.Prelude.{◌≡◌, ℕ, ◌<◌, List, ◌++◌, map, length, All, Option, Some, None, slice_get}
-use Rattle.prog_tree.specs.Syntax.{Name, ProgramTree, DraftTree}
-use Rattle.prog_check.specs.Faults.{table_names}
+-- The parameters that the programs of a draft keep for the pairs of a plan.
+use Rattle.std.specs.Prelude.{◌≡◌, ℕ, ◌<◌, List, length, All, Option, Some, None, slice_get}
+use Rattle.prog_tree.specs.Syntax.{ProgramTree}
 use Rattle.repair_laws.specs.declared.plan.NewTable.{NewTable}
 use Rattle.repair_laws.specs.Materialised.{columns_for}
-
--- ---- names
-
--- the names of new tables
-abbrev pub new_names : List NewTable → List Name
-new_names made = map (λ m. m.table) made
-
--- the names that no further table may have
-abbrev pub taken_names : DraftTree → List NewTable → List Name
-taken_names draft made = table_names draft ++ new_names made
-
--- ---- columns
 
 -- 0, or a parameter of a program that has so many
 abbrev pub IsColumn : (count : ℕ) → Option ℕ → Type 0

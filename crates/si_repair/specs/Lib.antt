@@ -1,12 +1,14 @@
+pub mod Behind
 pub mod Certificates
 pub mod Checking
-pub mod Covering
 pub mod Exposed
 pub mod Findings
 pub mod Front
 pub mod Key
+pub mod Marks
+pub mod Names
 pub mod Obstacles
 pub mod Planning
-pub mod Promoting
+pub mod Promotion
 pub mod Repairing
 pub mod Texts

@@ -11,6 +11,8 @@ use Rattle.prog_paths.specs.declared.accesses.places.Question.{Question}
 use Rattle.repair_laws.specs.declared.plan.Pair.{Pair}
 use Rattle.repair_laws.specs.Refusals.{is_range, HasRangeRead, HasUnknownKey, IsCoverable, IsRangeAt, StopsAtBody, StopsAtKey}
 use Rattle.si_repair.specs.Exposed.{AreExposed}
+use Rattle.si_repair.specs.declared.repairs.fault.RepairFault.{RepairFault}
+use Rattle.si_repair.specs.declared.repairs.fault.RepairFault.TheVariants as fault
 use Rattle.si_repair.specs.declared.repairs.obstacles.Obstacle.{Obstacle}
 use Rattle.si_repair.specs.declared.repairs.obstacles.Obstacle.TheVariants.{RangeRead, UnknownKey, BodyRead}
 
@@ -20,6 +22,14 @@ IsObstacle draft pair None = IsCoverable draft pair
 IsObstacle draft pair (Some RangeRead) = HasRangeRead draft pair
 IsObstacle draft pair (Some UnknownKey) = StopsAtKey draft pair
 IsObstacle draft pair (Some BodyRead) = StopsAtBody draft pair
+
+-- no keep covers some exposed read of the pair, or memory is wanting
+abbrev pub IsObstacleFault : DraftTree → Pair → RepairFault → Type 0
+IsObstacleFault draft pair (fault.RangeRead p) = (p ≡ pair) × HasRangeRead draft pair
+IsObstacleFault draft pair (fault.UnknownKey p) = (p ≡ pair) × StopsAtKey draft pair
+IsObstacleFault draft pair (fault.BodyRead p) = (p ≡ pair) × StopsAtBody draft pair
+IsObstacleFault draft pair (fault.TooMany p) = ⊥
+IsObstacleFault draft pair fault.Memory = Unit {0}
 
 -- ---- ranges
 

@@ -42,7 +42,7 @@ impl From<AllocError> for AnalyseFault {
 
 impl From<PairFault> for AnalyseFault {
     ghost use Rattle.std.specs.Prelude.{◌≡◌};
-    ghost use Rattle.si_repair.specs.Certificates.{fault_of};
+    ghost use Rattle.si_repair.specs.Findings.{fault_of};
 
     ghost from_gives = { λ fault e. e ≡ fault_of fault };
 

@@ -2,7 +2,7 @@
 ghost use Rattle.std.specs.Prelude.{◌≡◌, ◌||◌, ℕ, All, OnOk};
 ghost use Rattle.std.specs.List.{list_any};
 ghost use Rattle.si_repair.specs.Exposed.{HasRead};
-ghost use Rattle.si_repair.specs.Promoting.{is_marked, is_at, reads_at, place_of};
+ghost use Rattle.si_repair.specs.Marks.{is_marked, is_at, reads_at, place_of};
 
 use prog_check::Path;
 use prog_paths::Question;

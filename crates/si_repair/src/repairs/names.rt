@@ -3,7 +3,7 @@ ghost use Rattle.std.specs.Prelude.{◌≡◌, IfOk};
 ghost use Rattle.prog_tree.specs.Tree.{draft_tree};
 ghost use Rattle.prog_check.specs.Names.{is_among};
 ghost use Rattle.repair_laws.specs.Materialised.{IsLeastFree};
-ghost use Rattle.si_repair.specs.Front.{new_names, taken_names};
+ghost use Rattle.si_repair.specs.Names.{new_names, taken_names};
 
 use prog_check::ProgramSet;
 use prog_tree::Name;

@@ -6,8 +6,9 @@ ghost use Rattle.prog_check.specs.Sound.{IsSound};
 ghost use Rattle.repair_laws.specs.Promoted.{IsPromoted, MarksExposed};
 ghost use Rattle.repair_laws.specs.Refusals.{IsCoverable, StopsPromotion};
 ghost use Rattle.si_repair.specs.Exposed.{AreExposed};
-ghost use Rattle.si_repair.specs.Covering.{pairs_of, AreCovered, AreGathered, HasItsQuestions, HasCoveredReads, IsRefusedWith, IsSoundWith};
-ghost use Rattle.si_repair.specs.Promoting.{is_marked, IsObstacleFault};
+ghost use Rattle.si_repair.specs.Promotion.{pairs_of, AreCovered, AreGathered, HasItsQuestions, HasCoveredReads, IsRefusedWith, IsSoundWith};
+ghost use Rattle.si_repair.specs.Marks.{is_marked};
+ghost use Rattle.si_repair.specs.Obstacles.{IsObstacleFault};
 ghost use Rattle.si_repair.specs.Repairing.{IsCarriedOut, IsRepairFault};
 ghost use Rattle.si_repair.specs.declared.repairs.fault.RepairFault.TheVariants.{TooMany};
 

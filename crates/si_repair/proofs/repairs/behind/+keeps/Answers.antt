@@ -6,7 +6,8 @@ use Rattle.prog_tree.proofs.TreeLemmas.{fork_tree}
 use Rattle.prog_check.specs.Paths.{statement_count}
 use Rattle.prog_paths.specs.Kinds.{option_items}
 use Rattle.repair_laws.specs.Promoted.{keep_of, with_keeps}
-use Rattle.si_repair.specs.Promoting.{is_marked, cell_read_by}
+use Rattle.si_repair.specs.Behind.{cell_read_by}
+use Rattle.si_repair.specs.Marks.{is_marked}
 use Rattle.si_repair.proofs.Behind.{count-first, keeps-more, count-fork, keeps-fork, count-loop}
 use Rattle.si_repair.proofs.repairs.behind.+keeps.Goals as goal
 

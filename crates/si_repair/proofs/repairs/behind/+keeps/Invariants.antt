@@ -2,7 +2,8 @@ use Rattle.std.proofs.Common.{◌≡◌, ◌+◌, ◌*◌, ◌≤◌, drop}
 use Rattle.prog_tree.specs.Tree.{stmt_tree, stmts_tree, with_stmts, block_tree}
 use Rattle.prog_check.specs.Paths.{statement_count}
 use Rattle.repair_laws.specs.Promoted.{with_keeps}
-use Rattle.si_repair.specs.Promoting.{is_marked, count_by}
+use Rattle.si_repair.specs.Behind.{count_by}
+use Rattle.si_repair.specs.Marks.{is_marked}
 use Rattle.si_repair.proofs.repairs.behind.+keeps.Given as goal
 
 -- a block calls for its statements, and a branch for its blocks

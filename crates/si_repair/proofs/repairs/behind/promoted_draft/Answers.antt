@@ -1,6 +1,6 @@
 use Rattle.std.proofs.Common.{List, All, sym, subst}
 use Rattle.prog_tree.specs.declared.program.Program.{Program}
-use Rattle.si_repair.specs.Promoting.{HasFewStatements}
+use Rattle.si_repair.specs.Behind.{HasFewStatements}
 use Rattle.si_repair.proofs.Behind.{few_statements}
 use Rattle.si_repair.proofs.repairs.behind.promoted_draft.Goals as goal
 

@@ -1,7 +1,7 @@
 use Rattle.std.proofs.Common.{◌≡◌, ◌++◌, map, drop}
 use Rattle.prog_tree.specs.Tree.{program_tree}
 use Rattle.repair_laws.specs.Promoted.{all_with_keeps}
-use Rattle.si_repair.specs.Promoting.{is_marked}
+use Rattle.si_repair.specs.Marks.{is_marked}
 use Rattle.si_repair.proofs.repairs.behind.promoted_programs.Given as goal
 
 -- the programs so far, with those that are left

@@ -1,6 +1,6 @@
 use Rattle.std.proofs.Common.{◌≡◌, ◌||◌, ℕ, take}
 use Rattle.std.specs.List.{list_any}
-use Rattle.si_repair.specs.Promoting.{is_marked, reads_at}
+use Rattle.si_repair.specs.Marks.{is_marked, reads_at}
 use Rattle.si_repair.proofs.repairs.marks.push_reads.Given as goal
 
 abbrev pub invariant-loop-question : goal.invariant-loop-question

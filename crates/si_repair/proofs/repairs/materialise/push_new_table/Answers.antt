@@ -9,7 +9,7 @@ use Rattle.prog_paths.proofs.SingleCells.{law_of_single_changes}
 use Rattle.repair_laws.specs.declared.plan.NewTable.{NewTable}
 use Rattle.repair_laws.specs.Keys.{IsKeyOf}
 use Rattle.repair_laws.specs.Materialised.{params_of, AreNewTables, IsLeastFree}
-use Rattle.si_repair.specs.Front.{taken_names}
+use Rattle.si_repair.specs.Names.{taken_names}
 use Rattle.si_repair.proofs.NewTables.{met_more}
 use Rattle.si_repair.proofs.repairs.materialise.push_new_table.Goals as goal
 

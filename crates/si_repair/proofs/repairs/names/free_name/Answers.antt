@@ -6,7 +6,7 @@ use Rattle.prog_tree.specs.Syntax.{Name}
 use Rattle.prog_tree.specs.Tree.{draft_tree}
 use Rattle.prog_check.specs.Names.{is_among}
 use Rattle.repair_laws.specs.Materialised.{mat_name, IsLeastFree}
-use Rattle.si_repair.specs.Front.{taken_names}
+use Rattle.si_repair.specs.Names.{taken_names}
 use Rattle.si_repair.proofs.Naming.{first_free, one_free}
 use Rattle.si_repair.proofs.repairs.names.free_name.Goals as goal
 use Rattle.si_repair.proofs.repairs.names.free_name.Goals.{else-loop-number-test, then-loop-number-test+in_ok-name+else-not-is_taken+else-number-counter-taken}

@@ -2,7 +2,7 @@ use Rattle.std.proofs.Common.{◌≡◌, ℕ, ◌<◌, true}
 use Rattle.prog_tree.specs.Tree.{draft_tree}
 use Rattle.prog_check.specs.Names.{is_among}
 use Rattle.repair_laws.specs.Materialised.{mat_name}
-use Rattle.si_repair.specs.Front.{taken_names}
+use Rattle.si_repair.specs.Names.{taken_names}
 use Rattle.si_repair.proofs.repairs.names.free_name.Given as goal
 
 -- the names so far are taken

@@ -2,7 +2,7 @@ use Rattle.std.proofs.Common.{ap, sym, ◌∙◌}
 use Rattle.std.specs.Prelude.{is_some}
 use Rattle.prog_tree.specs.Tree.{draft_tree}
 use Rattle.prog_check.specs.Faults.{table_names}
-use Rattle.si_repair.specs.Front.{new_names}
+use Rattle.si_repair.specs.Names.{new_names}
 use Rattle.si_repair.proofs.Naming.{taken_first, taken_second}
 use Rattle.si_repair.proofs.repairs.names.is_taken.Goals as goal
 

@@ -4,8 +4,8 @@ use Rattle.prog_tree.specs.Tree.{draft_tree}
 use Rattle.prog_check.specs.declared.path.Path.{Path}
 use Rattle.si_repair.specs.declared.repairs.promotion.Covered.{Covered}
 use Rattle.si_repair.specs.Exposed.{AreExposed}
-use Rattle.si_repair.specs.Covering.{AreCovered, HasCoveredReads}
-use Rattle.si_repair.proofs.Covering.{none_covered, one_more_covered, all_covered}
+use Rattle.si_repair.specs.Promotion.{AreCovered, HasCoveredReads}
+use Rattle.si_repair.proofs.Promotion.{none_covered, one_more_covered, all_covered}
 use Rattle.si_repair.proofs.repairs.promotion.covered_pairs.Goals as goal
 
 pub loop-pair-init : goal.loop-pair-init

@@ -1,6 +1,6 @@
 use Rattle.std.proofs.Common.{take}
 use Rattle.prog_tree.specs.Tree.{draft_tree}
-use Rattle.si_repair.specs.Covering.{AreCovered}
+use Rattle.si_repair.specs.Promotion.{AreCovered}
 use Rattle.si_repair.proofs.repairs.promotion.covered_pairs.Given as goal
 
 -- keeps cover the pairs so far

@@ -3,8 +3,8 @@ use Rattle.std.proofs.lemmas.List.{take_all}
 use Rattle.prog_tree.specs.Tree.{draft_tree}
 use Rattle.repair_laws.specs.declared.plan.Pair.{Pair}
 use Rattle.si_repair.specs.declared.repairs.promotion.Covered.{Covered}
-use Rattle.si_repair.specs.Covering.{pairs_of, IsRefusedWith}
-use Rattle.si_repair.proofs.Covering.{covered_firsts, covered_at, promoted_at_once, refused_at, sound_with_none}
+use Rattle.si_repair.specs.Promotion.{pairs_of, IsRefusedWith}
+use Rattle.si_repair.proofs.Promotion.{covered_firsts, covered_at, promoted_at_once, refused_at, sound_with_none}
 use Rattle.si_repair.proofs.repairs.promotion.first_stop.Goals as goal
 
 pub most_that_fit-requires-clause-stands : goal.most_that_fit-requires-clause-stands

@@ -5,9 +5,9 @@ use Rattle.repair_laws.specs.declared.plan.Pair.{Pair}
 use Rattle.repair_laws.specs.Promoted.{MarksExposed}
 use Rattle.si_repair.specs.declared.repairs.marks.MarkedStatement.{MarkedStatement}
 use Rattle.si_repair.specs.declared.repairs.promotion.Covered.{Covered}
-use Rattle.si_repair.specs.Covering.{pairs_of, HasItsQuestions}
+use Rattle.si_repair.specs.Promotion.{pairs_of, HasItsQuestions}
 use Rattle.si_repair.specs.Exposed.{AreExposed}
-use Rattle.si_repair.specs.Promoting.{is_marked}
+use Rattle.si_repair.specs.Marks.{is_marked}
 use Rattle.si_repair.proofs.Obstacles.{HasRead-each}
 use Rattle.si_repair.proofs.Marks.{adds-reads, marks-none, marks-more}
 use Rattle.si_repair.proofs.repairs.promotion.marked_statements.Goals as goal

@@ -1,7 +1,7 @@
 use Rattle.std.proofs.Common.{take}
 use Rattle.repair_laws.specs.Promoted.{MarksExposed}
-use Rattle.si_repair.specs.Covering.{pairs_of}
-use Rattle.si_repair.specs.Promoting.{is_marked}
+use Rattle.si_repair.specs.Promotion.{pairs_of}
+use Rattle.si_repair.specs.Marks.{is_marked}
 use Rattle.si_repair.proofs.repairs.promotion.marked_statements.Given as goal
 
 -- the exposed reads of the pairs so far are marked

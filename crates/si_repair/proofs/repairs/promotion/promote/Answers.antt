@@ -5,7 +5,7 @@ use Rattle.prog_tree.specs.Tree.{draft_tree}
 use Rattle.repair_laws.specs.declared.plan.Pair.{Pair}
 use Rattle.repair_laws.specs.Promoted.{IsPromoted}
 use Rattle.repair_laws.specs.Refusals.{StopsPromotion}
-use Rattle.si_repair.specs.Covering.{AreGathered}
+use Rattle.si_repair.specs.Promotion.{AreGathered}
 use Rattle.si_repair.specs.Repairing.{IsCarriedOut, IsRepairFault}
 use Rattle.si_repair.proofs.repairs.promotion.promote.Goals as goal
 

@@ -3,8 +3,8 @@ use Rattle.prog_tree.specs.Tree.{draft_tree}
 use Rattle.repair_laws.specs.Promoted.{IsPromoted}
 use Rattle.si_repair.specs.declared.repairs.fault.RepairFault.{RepairFault}
 use Rattle.si_repair.specs.declared.repairs.promotion.Covered.{Covered}
-use Rattle.si_repair.specs.Covering.{pairs_of, AreCovered, AreGathered, HasCoveredReads, IsRefusedWith}
-use Rattle.si_repair.proofs.Covering.{gathered_firsts, gathered_stopped, promoted_safe, some_covered, stops_none, wholly_promoted}
+use Rattle.si_repair.specs.Promotion.{pairs_of, AreCovered, AreGathered, HasCoveredReads, IsRefusedWith}
+use Rattle.si_repair.proofs.Promotion.{gathered_firsts, gathered_stopped, promoted_safe, some_covered, stops_none, wholly_promoted}
 use Rattle.si_repair.proofs.repairs.promotion.promoted_or_stop.Goals as goal
 
 pub with_keeps-requires-clause-covered : goal.with_keeps-requires-clause-covered

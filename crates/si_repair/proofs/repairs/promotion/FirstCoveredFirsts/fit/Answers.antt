@@ -1,8 +1,8 @@
 use Rattle.std.proofs.Common.{◌∙◌, sym, take}
 use Rattle.std.proofs.lemmas.List.Elements.{All-take}
 use Rattle.prog_tree.specs.Tree.{draft_tree}
-use Rattle.si_repair.specs.Covering.{pairs_of, HasCoveredReads}
-use Rattle.si_repair.proofs.Covering.{refused_with, sound_with}
+use Rattle.si_repair.specs.Promotion.{pairs_of, HasCoveredReads}
+use Rattle.si_repair.proofs.Promotion.{refused_with, sound_with}
 use Rattle.si_repair.proofs.repairs.promotion.FirstCoveredFirsts.fit.Goals as goal
 
 pub with_keeps-requires-clause-paths : goal.with_keeps-requires-clause-paths

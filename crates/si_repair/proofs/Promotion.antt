@@ -21,8 +21,8 @@ use Rattle.repair_laws.proofs.RightLaws.{law_of_repair_sizes}
 use Rattle.si_repair.specs.declared.repairs.fault.RepairFault.{RepairFault}
 use Rattle.si_repair.specs.declared.repairs.fault.RepairFault.TheVariants as fault
 use Rattle.si_repair.specs.declared.repairs.promotion.Covered.{Covered}
-use Rattle.si_repair.specs.Covering.{pairs_of, AreCovered, AreGathered, HasItsQuestions, HasCoveredReads, IsRefusedWith, IsSoundWith}
-use Rattle.si_repair.specs.Promoting.{IsObstacleFault}
+use Rattle.si_repair.specs.Promotion.{pairs_of, AreCovered, AreGathered, HasItsQuestions, HasCoveredReads, IsRefusedWith, IsSoundWith}
+use Rattle.si_repair.specs.Obstacles.{IsObstacleFault}
 use Rattle.si_repair.specs.Repairing.{IsSafeRepair, StopsNowhere, IsRepairFault}
 use Rattle.si_repair.proofs.Behind.{none_marked, promoted-none}
 use Rattle.si_repair.proofs.Fewer.{fewer_marks_small}

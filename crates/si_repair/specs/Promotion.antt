@@ -11,7 +11,7 @@ use Rattle.si_repair.specs.declared.repairs.fault.RepairFault.{RepairFault}
 use Rattle.si_repair.specs.declared.repairs.promotion.Covered.{Covered}
 use Rattle.si_repair.specs.Checking.{IsRefused}
 use Rattle.si_repair.specs.Exposed.{AreExposed}
-use Rattle.si_repair.specs.Promoting.{IsObstacleFault}
+use Rattle.si_repair.specs.Obstacles.{IsObstacleFault}
 
 -- the questions of a pair are those that are exposed
 abbrev pub HasItsQuestions : List Path → Covered → Type 0
