@@ -20,8 +20,8 @@ use Rattle.repair_laws.proofs.Promoting.{law_of_promoting}
 use Rattle.repair_laws.proofs.RightLaws.{law_of_repair_sizes}
 use Rattle.si_repair.specs.declared.repairs.fault.RepairFault.{RepairFault}
 use Rattle.si_repair.specs.declared.repairs.fault.RepairFault.TheVariants as fault
-use Rattle.si_repair.specs.declared.repairs.promotion.Covered.{Covered}
-use Rattle.si_repair.specs.Promotion.{pairs_of, AreCovered, AreGathered, HasItsQuestions, HasCoveredReads, IsRefusedWith, IsSoundWith}
+use Rattle.si_repair.specs.declared.repairs.promotion.CoverablePair.{CoverablePair}
+use Rattle.si_repair.specs.Promotion.{pairs_of, AreCoverable, AreGathered, HasItsQuestions, HasCoverableReads, IsRefusedWith, IsSoundWith}
 use Rattle.si_repair.specs.Obstacles.{IsObstacleFault}
 use Rattle.si_repair.specs.Repairing.{IsSafeRepair, StopsNowhere, IsRepairFault}
 use Rattle.si_repair.proofs.Behind.{none_marked, promoted-none}
@@ -34,67 +34,67 @@ use Rattle.si_repair.proofs.Repaired.{safe_repair}
 one-promoted : (draft : DraftTree) (plan : List Pair) (a b : DraftTree) → IsPromoted draft plan a → IsPromoted draft plan b → a ≡ b
 one-promoted draft plan a b h k = h.2 ∙ ap (promoted_by draft) (marks-same (paths_of draft) plan h.0 k.0 h.1 k.1) ∙ sym k.2
 
--- ---- pairs that are covered
+-- ---- pairs that are coverable
 
-pub none_covered : (draft : DraftTree) → AreCovered draft [] []
-none_covered draft = (refl, All-nil (HasCoveredReads draft))
+pub none_coverable : (draft : DraftTree) → AreCoverable draft [] []
+none_coverable draft = (refl, All-nil (HasCoverableReads draft))
 
-pub one_more_covered : (draft : DraftTree) (pairs : List Pair) (n : ℕ) (d : Pair) (covered : List Covered) (next : Covered)
-    → n < length pairs → next.pair ≡ get_or pairs n d → AreCovered draft (take n pairs) covered → HasCoveredReads draft next
-    → AreCovered draft (take (n + 1) pairs) (covered ++ next ∷ [])
-one_more_covered draft pairs n d covered next inside is before own = (
-  map-append (λ (c : Covered). c.pair) covered (next ∷ []) ∙ (λ i. before.0 i ++ is i ∷ []) ∙ sym (take_more pairs n d inside),
-  All-push (HasCoveredReads draft) covered next before.1 own,
+pub one_more_coverable : (draft : DraftTree) (pairs : List Pair) (n : ℕ) (d : Pair) (coverable : List CoverablePair) (next : CoverablePair)
+    → n < length pairs → next.pair ≡ get_or pairs n d → AreCoverable draft (take n pairs) coverable → HasCoverableReads draft next
+    → AreCoverable draft (take (n + 1) pairs) (coverable ++ next ∷ [])
+one_more_coverable draft pairs n d coverable next inside is before own = (
+  map-append (λ (c : CoverablePair). c.pair) coverable (next ∷ []) ∙ (λ i. before.0 i ++ is i ∷ []) ∙ sym (take_more pairs n d inside),
+  All-push (HasCoverableReads draft) coverable next before.1 own,
 )
 
-pub all_covered : (draft : DraftTree) (pairs : List Pair) (n : ℕ) (covered : List Covered) → length pairs ≤ n → AreCovered draft (take n pairs) covered
-    → AreCovered draft pairs covered
-all_covered draft pairs n covered past own = subst (λ (l : List Pair). AreCovered draft l covered) (take_all n pairs past) own
+pub all_coverable : (draft : DraftTree) (pairs : List Pair) (n : ℕ) (coverable : List CoverablePair) → length pairs ≤ n → AreCoverable draft (take n pairs) coverable
+    → AreCoverable draft pairs coverable
+all_coverable draft pairs n coverable past own = subst (λ (l : List Pair). AreCoverable draft l coverable) (take_all n pairs past) own
 
 -- their questions are those that are exposed
-pub has_questions : (draft : DraftTree) (covered : List Covered) → All (HasCoveredReads draft) covered → All (HasItsQuestions (paths_of draft)) covered
-has_questions draft covered own = All-weaker (HasCoveredReads draft) (HasItsQuestions (paths_of draft)) (λ c h. h.1) covered own
+pub has_questions : (draft : DraftTree) (coverable : List CoverablePair) → All (HasCoverableReads draft) coverable → All (HasItsQuestions (paths_of draft)) coverable
+has_questions draft coverable own = All-weaker (HasCoverableReads draft) (HasItsQuestions (paths_of draft)) (λ c h. h.1) coverable own
 
-may_promote : (draft : DraftTree) (pairs : List Pair) (covered : List Covered) → AreCovered draft pairs covered → MayPromote draft pairs
-may_promote draft pairs covered own pair c =
+may_promote : (draft : DraftTree) (pairs : List Pair) (coverable : List CoverablePair) → AreCoverable draft pairs coverable → MayPromote draft pairs
+may_promote draft pairs coverable own pair c =
     All-contains (IsCoverable draft) pairs pair
     (subst (λ (l : List Pair). All (IsCoverable draft) l) own.0
-    (All-map (IsCoverable draft) (λ (x : Covered). x.pair) covered (All-weaker (HasCoveredReads draft) (λ (x : Covered). IsCoverable draft x.pair) (λ x h. h.0) covered own.1)))
+    (All-map (IsCoverable draft) (λ (x : CoverablePair). x.pair) coverable (All-weaker (HasCoverableReads draft) (λ (x : CoverablePair). IsCoverable draft x.pair) (λ x h. h.0) coverable own.1)))
     c
 
 -- there are as many as they cover pairs
-as_many : (draft : DraftTree) (pairs : List Pair) (covered : List Covered) → AreCovered draft pairs covered → length covered ≡ length pairs
-as_many draft pairs covered own = sym (length-map covered (λ (c : Covered). c.pair)) ∙ ap length own.0
+as_many : (draft : DraftTree) (pairs : List Pair) (coverable : List CoverablePair) → AreCoverable draft pairs coverable → length coverable ≡ length pairs
+as_many draft pairs coverable own = sym (length-map coverable (λ (c : CoverablePair). c.pair)) ∙ ap length own.0
 
 -- those that were gathered are the plan's first
-pub gathered_firsts : (draft : DraftTree) (plan : List Pair) (covered : List Covered) (f : Option RepairFault) → AreGathered draft plan covered f
-    → AreCovered draft (take (length covered) plan) covered
-gathered_firsts draft plan covered None own =
-    let same = as_many draft plan covered own in
-    subst (λ (l : List Pair). AreCovered draft l covered) (sym (take_all (length covered) plan (omega (arith, same)))) own
-gathered_firsts draft plan covered (Some f) (n, pair, at, own, h) =
+pub gathered_firsts : (draft : DraftTree) (plan : List Pair) (coverable : List CoverablePair) (f : Option RepairFault) → AreGathered draft plan coverable f
+    → AreCoverable draft (take (length coverable) plan) coverable
+gathered_firsts draft plan coverable None own =
+    let same = as_many draft plan coverable own in
+    subst (λ (l : List Pair). AreCoverable draft l coverable) (sym (take_all (length coverable) plan (omega (arith, same)))) own
+gathered_firsts draft plan coverable (Some f) (n, pair, at, own, h) =
     let inside = slice_get_within plan n pair at in
-    let same : length covered ≡ n = as_many draft (take n plan) covered own ∙ length-take-le n plan (omega (arith, inside)) in
-    subst (λ k. AreCovered draft (take k plan) covered) (sym same) own
+    let same : length coverable ≡ n = as_many draft (take n plan) coverable own ∙ length-take-le n plan (omega (arith, inside)) in
+    subst (λ k. AreCoverable draft (take k plan) coverable) (sym same) own
 
-pub covered_firsts : (draft : DraftTree) (plan : List Pair) (covered : List Covered) (n : ℕ) → AreCovered draft (take (length covered) plan) covered → n ≤ length covered
-    → AreCovered draft (take n plan) (take n covered)
-covered_firsts draft plan covered n own inside = (
-  sym (take-map (λ (c : Covered). c.pair) n covered) ∙ ap (take n) own.0 ∙ take-take n (length covered) plan inside,
-  All-take (HasCoveredReads draft) n covered own.1,
+pub coverable_firsts : (draft : DraftTree) (plan : List Pair) (coverable : List CoverablePair) (n : ℕ) → AreCoverable draft (take (length coverable) plan) coverable → n ≤ length coverable
+    → AreCoverable draft (take n plan) (take n coverable)
+coverable_firsts draft plan coverable n own inside = (
+  sym (take-map (λ (c : CoverablePair). c.pair) n coverable) ∙ ap (take n) own.0 ∙ take-take n (length coverable) plan inside,
+  All-take (HasCoverableReads draft) n coverable own.1,
 )
 
--- of all first pairs that are covered, the one at a place is the plan's there
-pub covered_at : (draft : DraftTree) (plan : List Pair) (covered : List Covered) (n : ℕ) (d : Covered) → AreCovered draft (take (length covered) plan) covered → n < length covered
-    → slice_get plan n ≡ Some (get_or covered n d).pair
-covered_at draft plan covered n d own inside =
-    let pair = (get_or covered n d).pair in
-    let same = as_many draft (take (length covered) plan) covered own in
-    let size = length-take (length covered) plan in
-    let most = min-le_right (length covered) (length plan) in
+-- of all first pairs that are coverable, the one at a place is the plan's there
+pub coverable_at : (draft : DraftTree) (plan : List Pair) (coverable : List CoverablePair) (n : ℕ) (d : CoverablePair) → AreCoverable draft (take (length coverable) plan) coverable → n < length coverable
+    → slice_get plan n ≡ Some (get_or coverable n d).pair
+coverable_at draft plan coverable n d own inside =
+    let pair = (get_or coverable n d).pair in
+    let same = as_many draft (take (length coverable) plan) coverable own in
+    let size = length-take (length coverable) plan in
+    let most = min-le_right (length coverable) (length plan) in
     let within : n < length plan = omega (arith, inside, same, size, most) in
     slice_get-get_or plan n pair within
-    ∙ ap Some (sym (get_or-take (length covered) plan n pair inside) ∙ ap (λ (l : List Pair). get_or l n pair) (sym own.0) ∙ get_or-map (λ (c : Covered). c.pair) covered n d pair inside)
+    ∙ ap Some (sym (get_or-take (length coverable) plan n pair inside) ∙ ap (λ (l : List Pair). get_or l n pair) (sym own.0) ∙ get_or-map (λ (c : CoverablePair). c.pair) coverable n d pair inside)
 
 -- ---- where no pair stops
 
@@ -118,12 +118,12 @@ contains-longer plan m n pair less (k, inside, is) =
     contains-first plan n k pair (omega (arith, before, less)) (slice_get-get_or plan k pair within ∙ ap Some (sym (get_or-take m plan k pair before) ∙ is))
 
 -- where what all these pairs make is sound, none of them stops the plan
-pub promoted_at_once : (draft : DraftTree) (plan : List Pair) (n : ℕ) (covered : List Covered) (result : DraftTree)
-    → AreCovered draft (take n plan) covered → IsPromoted draft (pairs_of covered) result → IsSound result → StopsBefore draft plan n
-promoted_at_once draft plan n covered result own (marked, exposed, is) sound = passed
+pub promoted_at_once : (draft : DraftTree) (plan : List Pair) (n : ℕ) (coverable : List CoverablePair) (result : DraftTree)
+    → AreCoverable draft (take n plan) coverable → IsPromoted draft (pairs_of coverable) result → IsSound result → StopsBefore draft plan n
+promoted_at_once draft plan n coverable result own (marked, exposed, is) sound = passed
   where
     may : MayPromote draft (take n plan)
-    may = may_promote draft (take n plan) covered own
+    may = may_promote draft (take n plan) coverable own
 
     fits : (k : ℕ) → k < n → IsTooLargeBy IsPromoted draft plan (k + 1) → ⊥
     fits k less (part, (marks, own_exposed, made), large) =
@@ -166,18 +166,18 @@ refused_with draft pairs (Some s) none refused = absurd (cc)
 pub sound_with_none : (draft : DraftTree) → IsSound draft → IsSoundWith draft []
 sound_with_none draft sound = (draft, (none_marked, marks-none (paths_of draft), sym (promoted-none draft)), sound)
 
--- what is made of pairs that are covered is refused for its size
-too_large : (draft : DraftTree) (pairs : List Pair) (covered : List Covered) → IsSound draft → AreCovered draft pairs covered → (h : IsRefusedWith draft pairs) → IsTooLarge h.0
-too_large draft pairs covered sound own (result, made, (found, is, known)) =
-    size_fault result found is ((law_of_repair_sizes draft pairs result sound).1 (may_promote draft pairs covered own) made)
+-- what is made of pairs that are coverable is refused for its size
+too_large : (draft : DraftTree) (pairs : List Pair) (coverable : List CoverablePair) → IsSound draft → AreCoverable draft pairs coverable → (h : IsRefusedWith draft pairs) → IsTooLarge h.0
+too_large draft pairs coverable sound own (result, made, (found, is, known)) =
+    size_fault result found is ((law_of_repair_sizes draft pairs result sound).1 (may_promote draft pairs coverable own) made)
 
 -- so there are some
-pub some_covered : (draft : DraftTree) (pairs : List Pair) (covered : List Covered) → IsSound draft → AreCovered draft pairs covered → IsRefusedWith draft (pairs_of covered) → 0 < length covered
-some_covered draft pairs [] sound own (result, made, refused) =
+pub some_coverable : (draft : DraftTree) (pairs : List Pair) (coverable : List CoverablePair) → IsSound draft → AreCoverable draft pairs coverable → IsRefusedWith draft (pairs_of coverable) → 0 < length coverable
+some_coverable draft pairs [] sound own (result, made, refused) =
     let same = one-promoted draft [] result draft made (none_marked, marks-none (paths_of draft), sym (promoted-none draft)) in
-    let large = too_large draft [] [] sound (none_covered draft) (result, made, refused) in
+    let large = too_large draft [] [] sound (none_coverable draft) (result, made, refused) in
     absurd (small_fits draft (sound_small draft sound) (subst (λ (d : DraftTree). IsTooLarge d) same large))
-some_covered draft pairs (c ∷ cs) sound own refused = omega arith
+some_coverable draft pairs (c ∷ cs) sound own refused = omega arith
 
 stopping : (draft : DraftTree) (plan : List Pair) (n : ℕ) (pair : Pair) (reason : Reason) → slice_get plan n ≡ Some pair → StopsBefore draft plan n
     → StopsPromotion draft plan n pair reason → IsFirstStop (StopsPromotion draft plan) plan pair reason
@@ -189,12 +189,12 @@ stopping draft plan n pair reason at passed stops = record {
 }
 
 -- the pair up to which what they make is refused
-pub refused_at : (draft : DraftTree) (plan : List Pair) (n : ℕ) (pair : Pair) (covered : List Covered) → IsSound draft → slice_get plan n ≡ Some pair
-    → AreCovered draft (take (n + 1) plan) covered → StopsBefore draft plan n → IsRefusedWith draft (take (n + 1) plan)
+pub refused_at : (draft : DraftTree) (plan : List Pair) (n : ℕ) (pair : Pair) (coverable : List CoverablePair) → IsSound draft → slice_get plan n ≡ Some pair
+    → AreCoverable draft (take (n + 1) plan) coverable → StopsBefore draft plan n → IsRefusedWith draft (take (n + 1) plan)
     → IsRepairFault (StopsPromotion draft plan) plan (fault.TooMany pair)
-refused_at draft plan n pair covered sound at own passed refused =
-    let coverable = may_promote draft (take (n + 1) plan) covered own pair (contains-first plan (n + 1) n pair (omega arith) at) in
-    stopping draft plan n pair why.TooLarge at passed (coverable, (refused.0, refused.1, too_large draft (take (n + 1) plan) covered sound own refused))
+refused_at draft plan n pair coverable sound at own passed refused =
+    let may = may_promote draft (take (n + 1) plan) coverable own pair (contains-first plan (n + 1) n pair (omega arith) at) in
+    stopping draft plan n pair why.TooLarge at passed (may, (refused.0, refused.1, too_large draft (take (n + 1) plan) coverable sound own refused))
 
 -- the pair that no keeps cover
 pub obstacle_at : (draft : DraftTree) (plan : List Pair) (n : ℕ) (pair : Pair) → slice_get plan n ≡ Some pair → StopsBefore draft plan n
@@ -206,24 +206,24 @@ obstacle_at draft plan n pair at passed (fault.TooMany p) h = absurd h
 obstacle_at draft plan n pair at passed fault.Memory h = tt
 
 -- the pair that stopped the gathering stops the plan
-pub gathered_stopped : (draft : DraftTree) (plan : List Pair) (covered : List Covered) (result : DraftTree) (f : RepairFault)
-    → AreGathered draft plan covered (Some f) → IsPromoted draft (pairs_of covered) result → IsSound result → IsRepairFault (StopsPromotion draft plan) plan f
-gathered_stopped draft plan covered result f (n, pair, at, own, h) made sound =
-    obstacle_at draft plan n pair at (promoted_at_once draft plan n covered result own made sound) f h
+pub gathered_stopped : (draft : DraftTree) (plan : List Pair) (coverable : List CoverablePair) (result : DraftTree) (f : RepairFault)
+    → AreGathered draft plan coverable (Some f) → IsPromoted draft (pairs_of coverable) result → IsSound result → IsRepairFault (StopsPromotion draft plan) plan f
+gathered_stopped draft plan coverable result f (n, pair, at, own, h) made sound =
+    obstacle_at draft plan n pair at (promoted_at_once draft plan n coverable result own made sound) f h
 
 -- ---- the set of a whole plan
 
-pub wholly_promoted : (draft : DraftTree) (plan : List Pair) (covered : List Covered) (result : DraftTree) → AreCovered draft plan covered → IsPromoted draft (pairs_of covered) result
+pub wholly_promoted : (draft : DraftTree) (plan : List Pair) (coverable : List CoverablePair) (result : DraftTree) → AreCoverable draft plan coverable → IsPromoted draft (pairs_of coverable) result
     → IsPromoted draft plan result
-wholly_promoted draft plan covered result own made = subst (λ (l : List Pair). IsPromoted draft l result) own.0 made
+wholly_promoted draft plan coverable result own made = subst (λ (l : List Pair). IsPromoted draft l result) own.0 made
 
-pub stops_none : (draft : DraftTree) (plan : List Pair) (covered : List Covered) (result : DraftTree) → AreCovered draft plan covered → IsPromoted draft (pairs_of covered) result → IsSound result
+pub stops_none : (draft : DraftTree) (plan : List Pair) (coverable : List CoverablePair) (result : DraftTree) → AreCoverable draft plan coverable → IsPromoted draft (pairs_of coverable) result → IsSound result
     → StopsNowhere (StopsPromotion draft plan) plan
-stops_none draft plan covered result own made sound =
+stops_none draft plan coverable result own made sound =
     stops_nowhere draft plan
-    (promoted_at_once draft plan (length plan) covered result (subst (λ (l : List Pair). AreCovered draft l covered) (sym (take_all (length plan) plan (omega arith))) own) made sound)
+    (promoted_at_once draft plan (length plan) coverable result (subst (λ (l : List Pair). AreCoverable draft l coverable) (sym (take_all (length plan) plan (omega arith))) own) made sound)
 
-pub promoted_safe : (draft : DraftTree) (plan : List Pair) (covered : List Covered) (result : DraftTree) → IsSound draft → AreCovered draft plan covered → IsPromoted draft (pairs_of covered) result
+pub promoted_safe : (draft : DraftTree) (plan : List Pair) (coverable : List CoverablePair) (result : DraftTree) → IsSound draft → AreCoverable draft plan coverable → IsPromoted draft (pairs_of coverable) result
     → IsSafeRepair draft plan result
-promoted_safe draft plan covered result sound own made =
-    safe_repair draft plan result sound (law_of_promoting draft plan result sound (may_promote draft plan covered own) (wholly_promoted draft plan covered result own made))
+promoted_safe draft plan coverable result sound own made =
+    safe_repair draft plan result sound (law_of_promoting draft plan result sound (may_promote draft plan coverable own) (wholly_promoted draft plan coverable result own made))

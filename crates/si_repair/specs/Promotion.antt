@@ -8,32 +8,32 @@ use Rattle.repair_laws.specs.declared.plan.Pair.{Pair}
 use Rattle.repair_laws.specs.Promoted.{IsPromoted}
 use Rattle.repair_laws.specs.Refusals.{IsCoverable}
 use Rattle.si_repair.specs.declared.repairs.fault.RepairFault.{RepairFault}
-use Rattle.si_repair.specs.declared.repairs.promotion.Covered.{Covered}
+use Rattle.si_repair.specs.declared.repairs.promotion.CoverablePair.{CoverablePair}
 use Rattle.si_repair.specs.Checking.{IsRefused}
 use Rattle.si_repair.specs.Exposed.{AreExposed}
 use Rattle.si_repair.specs.Obstacles.{IsObstacleFault}
 
 -- the questions of a pair are those that are exposed
-abbrev pub HasItsQuestions : List Path → Covered → Type 0
-HasItsQuestions nodes covered = AreExposed nodes covered.pair covered.questions.items
+abbrev pub HasItsQuestions : List Path → CoverablePair → Type 0
+HasItsQuestions nodes coverable = AreExposed nodes coverable.pair coverable.questions.items
 
 -- and keeps cover its reads
-abbrev pub HasCoveredReads : DraftTree → Covered → Type 0
-HasCoveredReads draft covered = IsCoverable draft covered.pair × HasItsQuestions (paths_of draft) covered
+abbrev pub HasCoverableReads : DraftTree → CoverablePair → Type 0
+HasCoverableReads draft coverable = IsCoverable draft coverable.pair × HasItsQuestions (paths_of draft) coverable
 
-abbrev pub pairs_of : List Covered → List Pair
-pairs_of covered = map (λ c. c.pair) covered
+abbrev pub pairs_of : List CoverablePair → List Pair
+pairs_of coverable = map (λ c. c.pair) coverable
 
 -- these are the pairs, each of which keeps cover
-abbrev pub AreCovered : DraftTree → List Pair → List Covered → Type 0
-AreCovered draft pairs covered = (pairs_of covered ≡ pairs) × All (HasCoveredReads draft) covered
+abbrev pub AreCoverable : DraftTree → List Pair → List CoverablePair → Type 0
+AreCoverable draft pairs coverable = (pairs_of coverable ≡ pairs) × All (HasCoverableReads draft) coverable
 
 -- all pairs of a plan, or, where no keeps cover a pair, those before it, and the fault of this one
-abbrev pub AreGathered : DraftTree → List Pair → List Covered → Option RepairFault → Type 0
-AreGathered draft plan covered None = AreCovered draft plan covered
-AreGathered draft plan covered (Some fault) =
+abbrev pub AreGathered : DraftTree → List Pair → List CoverablePair → Option RepairFault → Type 0
+AreGathered draft plan coverable None = AreCoverable draft plan coverable
+AreGathered draft plan coverable (Some fault) =
     (n : ℕ) × (pair : Pair) × (slice_get plan n ≡ Some pair)
-    × AreCovered draft (take n plan) covered × IsObstacleFault draft pair fault
+    × AreCoverable draft (take n plan) coverable × IsObstacleFault draft pair fault
 
 -- with keeps for these pairs a draft is sound
 abbrev pub IsSoundWith : DraftTree → List Pair → Type 0

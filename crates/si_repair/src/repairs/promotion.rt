@@ -6,7 +6,7 @@ ghost use Rattle.prog_check.specs.Sound.{IsSound};
 ghost use Rattle.repair_laws.specs.Promoted.{IsPromoted, MarksExposed};
 ghost use Rattle.repair_laws.specs.Refusals.{IsCoverable, StopsPromotion};
 ghost use Rattle.si_repair.specs.Exposed.{AreExposed};
-ghost use Rattle.si_repair.specs.Promotion.{pairs_of, AreCovered, AreGathered, HasItsQuestions, HasCoveredReads, IsRefusedWith, IsSoundWith};
+ghost use Rattle.si_repair.specs.Promotion.{pairs_of, AreCoverable, AreGathered, HasItsQuestions, HasCoverableReads, IsRefusedWith, IsSoundWith};
 ghost use Rattle.si_repair.specs.Marks.{is_marked};
 ghost use Rattle.si_repair.specs.Obstacles.{IsObstacleFault};
 ghost use Rattle.si_repair.specs.Repairing.{IsCarriedOut, IsRepairFault};
@@ -48,7 +48,7 @@ fn refuse_obstacle(
 }
 
 /// The exposed questions of a pair, if keeps cover its reads.
-fn covered_questions(
+fn coverable_questions(
     alloc: Global,
     draft: &Draft,
     paths: &[Path],
@@ -66,7 +66,7 @@ fn covered_questions(
 
 /// A pair whose exposed reads keeps cover, with the questions of these reads.
 #[derive(Drop)]
-struct Covered {
+struct CoverablePair {
     pair: Pair,
     questions: Vec<Question>,
 }
@@ -74,37 +74,37 @@ struct Covered {
 /// The first pairs of a plan, whose reads keeps cover, and the fault of the next one, where they
 /// do not.
 #[derive(Drop)]
-struct CoveredPairs {
-    covered: Vec<Covered>,
+struct CoverablePairs {
+    coverable: Vec<CoverablePair>,
     fault: Option<RepairFault>,
 }
 
 /// The pairs up to the first that no keeps cover, or all.
-fn covered_pairs(
+fn coverable_pairs(
     alloc: Global,
     draft: &Draft,
     paths: &[Path],
     pairs: &[Pair],
-) -> Result<CoveredPairs, AllocError>
+) -> Result<CoverablePairs, AllocError>
     requires { paths.now ≡ paths_of (draft_tree draft.now) }
     ensures { IfOk result (λ all. AreGathered (draft_tree draft.now) pairs.now
-        all.covered.items all.fault) }
+        all.coverable.items all.fault) }
 {
-    let mut covered = Vec::new(alloc);
+    let mut coverable = Vec::new(alloc);
     for pair in pairs {
-        match covered_questions(alloc, draft, paths, *pair) {
-            Ok(questions) => covered.push(Covered {
+        match coverable_questions(alloc, draft, paths, *pair) {
+            Ok(questions) => coverable.push(CoverablePair {
                 pair: *pair,
                 questions,
             })?,
-            Err(fault) => return Ok(CoveredPairs {
-                covered,
+            Err(fault) => return Ok(CoverablePairs {
+                coverable,
                 fault: Some(fault),
             }),
         }
     }
-    Ok(CoveredPairs {
-        covered,
+    Ok(CoverablePairs {
+        coverable,
         fault: None,
     })
 }
@@ -113,14 +113,14 @@ fn covered_pairs(
 fn marked_statements(
     alloc: Global,
     paths: &[Path],
-    covered: &[Covered],
+    coverable: &[CoverablePair],
 ) -> Result<Vec<MarkedStatement>, AllocError>
-    requires { All (HasItsQuestions paths.now) covered.now }
+    requires { All (HasItsQuestions paths.now) coverable.now }
     ensures { IfOk result (λ marks.
-        MarksExposed paths.now (pairs_of covered.now) (is_marked marks.items)) }
+        MarksExposed paths.now (pairs_of coverable.now) (is_marked marks.items)) }
 {
     let mut marks = Vec::new(alloc);
-    for each in covered {
+    for each in coverable {
         push_reads(&mut marks, paths, each.pair, &each.questions)?;
     }
     Ok(marks)
@@ -131,45 +131,45 @@ fn with_keeps(
     alloc: Global,
     set: &ProgramSet,
     paths: &[Path],
-    covered: &[Covered],
+    coverable: &[CoverablePair],
 ) -> Result<Option<ProgramSet>, AllocError>
     requires paths { paths.now ≡ paths_of (draft_tree set.now) }
-    requires covered { All (HasCoveredReads (draft_tree set.now)) covered.now }
+    requires coverable { All (HasCoverableReads (draft_tree set.now)) coverable.now }
     ensures made { IfOk result (λ o. IfSome o
-        (λ s. IsPromoted (draft_tree set.now) (pairs_of covered.now) (draft_tree s))) }
+        (λ s. IsPromoted (draft_tree set.now) (pairs_of coverable.now) (draft_tree s))) }
     ensures sound { IfOk result (λ o. IfSome o (λ s. IsSound (draft_tree s))) }
     ensures refused { IfOk result (λ o. IfNone o
-        (IsRefusedWith (draft_tree set.now) (pairs_of covered.now))) }
+        (IsRefusedWith (draft_tree set.now) (pairs_of coverable.now))) }
 {
     let draft = set.draft();
-    let marks = marked_statements(alloc, paths, covered)?;
+    let marks = marked_statements(alloc, paths, coverable)?;
     let whole = promoted_draft(alloc, draft, &marks)?;
     checked_set(alloc, whole)
 }
 
 /// The pairs that keeps cover, of which the first ones get theirs.
 #[derive(Drop)]
-struct FirstCovered<'a> {
+struct FirstCoverable<'a> {
     set: &'a ProgramSet,
     paths: &'a [Path],
-    covered: &'a [Covered],
+    coverable: &'a [CoverablePair],
 }
 
-impl<'a> Firsts for FirstCovered<'a> {
+impl<'a> Firsts for FirstCoverable<'a> {
     ghost stands = { λ firsts. (firsts.paths.now ≡ paths_of (draft_tree firsts.set.now))
-        × All (HasCoveredReads (draft_tree firsts.set.now)) firsts.covered.now };
+        × All (HasCoverableReads (draft_tree firsts.set.now)) firsts.coverable.now };
 
-    ghost count = { λ firsts. length firsts.covered.now };
+    ghost count = { λ firsts. length firsts.coverable.now };
 
     ghost fits = { λ firsts n. IsSoundWith (draft_tree firsts.set.now)
-        (pairs_of (take n firsts.covered.now)) };
+        (pairs_of (take n firsts.coverable.now)) };
 
     ghost is_refused = { λ firsts n. IsRefusedWith (draft_tree firsts.set.now)
-        (pairs_of (take n firsts.covered.now)) };
+        (pairs_of (take n firsts.coverable.now)) };
 
     /// Whether the set with keeps for the first pairs breaks no limit.
     fn fit(&self, alloc: Global, n: usize) -> Result<bool, AllocError> {
-        let promoted = with_keeps(alloc, self.set, self.paths, &self.covered[..n])?;
+        let promoted = with_keeps(alloc, self.set, self.paths, &self.coverable[..n])?;
         Ok(promoted.is_some())
     }
 }
@@ -180,24 +180,24 @@ fn first_stop(
     set: &ProgramSet,
     paths: &[Path],
     pairs: &[Pair],
-    covered: &[Covered],
+    coverable: &[CoverablePair],
 ) -> Result<Pair, AllocError>
     requires paths { paths.now ≡ paths_of (draft_tree set.now) }
-    requires covered { AreCovered (draft_tree set.now)
-        (take (length covered.now) pairs.now) covered.now }
-    requires some { 0 < length covered.now }
+    requires coverable { AreCoverable (draft_tree set.now)
+        (take (length coverable.now) pairs.now) coverable.now }
+    requires some { 0 < length coverable.now }
     requires sound { IsSound (draft_tree set.now) }
-    requires large { IsRefusedWith (draft_tree set.now) (pairs_of covered.now) }
+    requires large { IsRefusedWith (draft_tree set.now) (pairs_of coverable.now) }
     ensures { IfOk result (λ stopping. IsRepairFault
         (StopsPromotion (draft_tree set.now) pairs.now) pairs.now (TooMany stopping)) }
 {
-    let firsts = FirstCovered {
+    let firsts = FirstCoverable {
         set,
         paths,
-        covered,
+        coverable,
     };
-    let fitting = most_that_fit(alloc, &firsts, covered.len())?;
-    Ok(covered[fitting].pair)
+    let fitting = most_that_fit(alloc, &firsts, coverable.len())?;
+    Ok(coverable[fitting].pair)
 }
 
 /// The set with keeps for pairs that were gathered, or the fault of the first that stops them: what
@@ -207,19 +207,19 @@ fn promoted_or_stop(
     set: &ProgramSet,
     paths: &[Path],
     pairs: &[Pair],
-    gathered: CoveredPairs,
+    gathered: CoverablePairs,
 ) -> Result<ProgramSet, RepairFault>
     requires paths { paths.now ≡ paths_of (draft_tree set.now) }
     requires sound { IsSound (draft_tree set.now) }
     requires gathered { AreGathered (draft_tree set.now) pairs.now
-        gathered.covered.items gathered.fault }
+        gathered.coverable.items gathered.fault }
     ensures repaired { IfOk result (λ s. IsCarriedOut IsPromoted StopsPromotion
         (draft_tree set.now) pairs.now (draft_tree s)) }
     ensures refused { IfErr result (λ fault. IsRepairFault
         (StopsPromotion (draft_tree set.now) pairs.now) pairs.now fault) }
 {
-    let Some(promoted) = with_keeps(alloc, set, paths, &gathered.covered)? else {
-        let stopping = first_stop(alloc, set, paths, pairs, &gathered.covered)?;
+    let Some(promoted) = with_keeps(alloc, set, paths, &gathered.coverable)? else {
+        let stopping = first_stop(alloc, set, paths, pairs, &gathered.coverable)?;
         return Err(RepairFault::TooMany(stopping));
     };
     if let Some(fault) = gathered.fault {
@@ -238,6 +238,6 @@ pub fn promote(alloc: Global, set: &ProgramSet, plan: &Plan) -> Result<ProgramSe
 {
     let paths = paths(alloc, set)?;
     let pairs = plan.pairs.as_slice();
-    let gathered = covered_pairs(alloc, set.draft(), &paths, pairs)?;
+    let gathered = coverable_pairs(alloc, set.draft(), &paths, pairs)?;
     promoted_or_stop(alloc, set, &paths, pairs, gathered)
 }

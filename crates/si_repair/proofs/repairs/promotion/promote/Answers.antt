@@ -15,7 +15,7 @@ promoted_or_stop-requires-clause-sound c = c.draft.ensures.sound
 pub promoted_or_stop-requires-clause-gathered : goal.promoted_or_stop-requires-clause-gathered
 promoted_or_stop-requires-clause-gathered c =
     let all = c.in_ok-gathered.gathered in
-    subst (λ (d : Draft). AreGathered (draft_tree d) c.as_slice-pairs.result.now all.covered.items all.fault) c.draft.ensures.same c.in_ok-gathered.ensures
+    subst (λ (d : Draft). AreGathered (draft_tree d) c.as_slice-pairs.result.now all.coverable.items all.fault) c.draft.ensures.same c.in_ok-gathered.ensures
 
 pub returns-clause-repaired : goal.returns-clause-repaired
 returns-clause-repaired c =

@@ -13,12 +13,12 @@ use Rattle.si_repair.proofs.repairs.promotion.with_keeps.Goals as goal
 
 pub marked_statements-requires : goal.marked_statements-requires
 marked_statements-requires c =
-    subst (λ (l : List Path). All (HasItsQuestions l) c.args.covered.now) (sym c.requires.paths) (has_questions (draft_tree c.args.set.now) c.args.covered.now c.requires.covered)
+    subst (λ (l : List Path). All (HasItsQuestions l) c.args.coverable.now) (sym c.requires.paths) (has_questions (draft_tree c.args.set.now) c.args.coverable.now c.requires.coverable)
 
 pub returns-clause-made : goal.returns-clause-made
 returns-clause-made c =
     let marked = is_marked c.in_ok-marks.marks.items in
-    let exposed = subst (λ (l : List Path). MarksExposed l (pairs_of c.args.covered.now) marked) c.requires.paths c.in_ok-marks.ensures in
+    let exposed = subst (λ (l : List Path). MarksExposed l (pairs_of c.args.coverable.now) marked) c.requires.paths c.in_ok-marks.ensures in
     let is = c.in_ok-whole.ensures ∙ (λ i. promoted_by (draft_tree (c.draft-draft.ensures.same i)) (is_marked (c.deref.ensures.value i))) in
     IfOk-weaker c.checked_set.result _ _ (λ o some. IfSome_then o some (λ s made. (marked, exposed, made ∙ is))) c.checked_set.ensures.made
 
@@ -26,7 +26,7 @@ pub returns-clause-refused : goal.returns-clause-refused
 returns-clause-refused c =
     let draft = draft_tree c.args.set.now in
     let marked = is_marked c.in_ok-marks.marks.items in
-    let exposed = subst (λ (l : List Path). MarksExposed l (pairs_of c.args.covered.now) marked) c.requires.paths c.in_ok-marks.ensures in
+    let exposed = subst (λ (l : List Path). MarksExposed l (pairs_of c.args.coverable.now) marked) c.requires.paths c.in_ok-marks.ensures in
     let is = c.in_ok-whole.ensures ∙ (λ i. promoted_by (draft_tree (c.draft-draft.ensures.same i)) (is_marked (c.deref.ensures.value i))) in
     IfOk-weaker c.checked_set.result _ _ (λ o none. none_then o _ _ (λ refused. (promoted_by draft marked, (marked, exposed, refl), subst (λ (d : DraftTree). IsRefused d) is refused)) none)
     c.checked_set.ensures.refused
