@@ -17,7 +17,7 @@ use Rattle.repair_laws.specs.declared.plan.Pair.{Pair}
 use Rattle.repair_laws.specs.Keys.{ExposedOf}
 use Rattle.repair_laws.specs.Refusals.{IsStatementAt, IsRange, IsRangeAt, HasUnknownKey, HasRangeRead, HasUnknownRead, HasBodyRead}
 use Rattle.si_repair.specs.Exposed.{AreExposed, HasRead, HasBoth}
-use Rattle.si_repair.specs.Obstacles.{IsObstacle, range_list, program_ranges, Hinders, HasHindered, IsFirstHindered, IsHindered, IsRangeIn, obstacle_of}
+use Rattle.si_repair.specs.Obstacles.{IsObstacle, range_list, program_ranges, Hinders, HasHindered, IsFirstHindered, IsHindered, IsRangeIn}
 use Rattle.si_repair.specs.declared.repairs.obstacles.Obstacle.{Obstacle}
 use Rattle.si_repair.specs.declared.repairs.obstacles.Obstacle.TheVariants.{RangeRead, UnknownKey, BodyRead}
 use Rattle.si_repair.proofs.Exposed.{nothing, among_first}
@@ -345,12 +345,21 @@ module _ (draft : DraftTree) (nodes : List Path) (is : nodes ≡ paths_of draft)
   meets-from_body : (ranges : ℕ → Type 0) → HasBodyRead draft pair → HasHindered nodes ranges BodyRead qs
   meets-from_body ranges h = let o = subst BodyReadOf (sym is) h in hindered_of ranges BodyRead o.0 o.1
 
-  -- what the three tests find is the first obstacle
+  -- what is found first is the obstacle
   module _ (list : List Bool) (are : list ≡ program_ranges (slice_get draft.programs pair.from)) where
-    pub IsObstacle-first : (reads_range reads_unknown in_body : Bool) → (reads_range ≡ true) ↔ HasHindered nodes (IsRangeIn list) RangeRead qs → (reads_unknown ≡ true) ↔ HasHindered nodes (IsRangeIn list) UnknownKey qs → (in_body ≡ true) ↔ HasHindered nodes (IsRangeIn list) BodyRead qs → IsObstacle draft pair (obstacle_of reads_range reads_unknown in_body)
-    IsObstacle-first true u b range unknown meets = range-from_list list are (range.0 refl)
-    IsObstacle-first false true b range unknown meets = (λ h. false≢true (range.1 (list-from_range list are h)), unknown-from_reads (IsRangeIn list) (unknown.0 refl))
-    IsObstacle-first false false true range unknown meets =
-        (λ h. false≢true (range.1 (list-from_range list are h)), λ h. false≢true (unknown.1 (reads-from_unknown (IsRangeIn list) h)), body-from_meets (IsRangeIn list) (meets.0 refl))
-    IsObstacle-first false false false range unknown meets =
-        (λ h. false≢true (range.1 (list-from_range list are h)), λ h. false≢true (unknown.1 (reads-from_unknown (IsRangeIn list) h)), λ h. false≢true (meets.1 (meets-from_body (IsRangeIn list) h)))
+    abbrev pub IsFound : Obstacle → Type 0
+    IsFound obstacle = HasHindered nodes (IsRangeIn list) obstacle qs
+
+    pub IsObstacle-range : IsFound RangeRead → IsObstacle draft pair (Some RangeRead)
+    IsObstacle-range range = range-from_list list are range
+
+    pub IsObstacle-unknown : (IsFound RangeRead → ⊥) → IsFound UnknownKey → IsObstacle draft pair (Some UnknownKey)
+    IsObstacle-unknown no_range unknown = (λ h. no_range (list-from_range list are h), unknown-from_reads (IsRangeIn list) unknown)
+
+    pub IsObstacle-body : (IsFound RangeRead → ⊥) → (IsFound UnknownKey → ⊥) → IsFound BodyRead → IsObstacle draft pair (Some BodyRead)
+    IsObstacle-body no_range no_unknown meets =
+        (λ h. no_range (list-from_range list are h), λ h. no_unknown (reads-from_unknown (IsRangeIn list) h), body-from_meets (IsRangeIn list) meets)
+
+    pub IsObstacle-none : (IsFound RangeRead → ⊥) → (IsFound UnknownKey → ⊥) → (IsFound BodyRead → ⊥) → IsObstacle draft pair None
+    IsObstacle-none no_range no_unknown no_meets =
+        (λ h. no_range (list-from_range list are h), λ h. no_unknown (reads-from_unknown (IsRangeIn list) h), λ h. no_meets (meets-from_body (IsRangeIn list) h))

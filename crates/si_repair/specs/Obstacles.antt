@@ -86,11 +86,3 @@ abbrev pub IsFirstHinderedOf : DraftTree → Pair → Obstacle → Option Questi
 IsFirstHinderedOf draft pair obstacle found =
     (questions : List Question) × AreExposed (paths_of draft) pair questions
     × IsFirstHindered (paths_of draft) (IsRangeAt draft pair.from) obstacle questions found
-
--- The obstacle of a pair that reads a range or not, under an unknown key or not, and in a body or not: a range comes
--- first, then an unknown key.
-abbrev pub obstacle_of : (reads_range reads_unknown in_body : Bool) → Option Obstacle
-obstacle_of true reads_unknown in_body = Some RangeRead
-obstacle_of false true in_body = Some UnknownKey
-obstacle_of false false true = Some BodyRead
-obstacle_of false false false = None

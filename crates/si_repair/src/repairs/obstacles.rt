@@ -4,7 +4,7 @@ ghost use Rattle.prog_tree.specs.Tree.{draft_tree};
 ghost use Rattle.prog_check.specs.Paths.{paths_of};
 ghost use Rattle.repair_laws.specs.Refusals.{IsUnknownTerm, IsUnknownSecond, HasUnknownKey};
 ghost use Rattle.si_repair.specs.Exposed.{HasBoth, AreExposed};
-ghost use Rattle.si_repair.specs.Obstacles.{IsObstacle, IsRangeIn, MeetInBody, Hinders, HasHindered, IsFirstHindered, IsFirstHinderedOf, obstacle_of};
+ghost use Rattle.si_repair.specs.Obstacles.{IsObstacle, IsRangeIn, MeetInBody, Hinders, HasHindered, IsFirstHindered, IsFirstHinderedOf};
 
 use crate::repairs::exposed::{access_at, exposed_questions};
 use crate::repairs::ranges::{is_range, ranges_of};
@@ -100,22 +100,6 @@ fn is_hindered(paths: &[Path], ranges: &[bool], questions: &[Question], obstacle
     first_hindered(paths, ranges, questions, obstacle).is_some()
 }
 
-/// The obstacle of a pair that reads a range or not, under an unknown key or not, and in a body or
-/// not.
-fn obstacle_of(reads_range: bool, reads_unknown: bool, in_body: bool) -> Option<Obstacle>
-    ensures { result ≡ obstacle_of reads_range reads_unknown in_body }
-{
-    if reads_range {
-        Some(Obstacle::RangeRead)
-    } else if reads_unknown {
-        Some(Obstacle::UnknownKey)
-    } else if in_body {
-        Some(Obstacle::BodyRead)
-    } else {
-        None
-    }
-}
-
 /// Why a pair with these exposed questions can't be promoted: a range read before an unknown key,
 /// and that before an access in a body.
 pub fn first_obstacle(
@@ -131,10 +115,16 @@ pub fn first_obstacle(
 {
     let listed = ranges_of(alloc, draft, pair.from)?;
     let ranges = listed.as_slice();
-    let reads_range = is_hindered(paths, ranges, questions, Obstacle::RangeRead);
-    let unknown_key = is_hindered(paths, ranges, questions, Obstacle::UnknownKey);
-    let in_body = is_hindered(paths, ranges, questions, Obstacle::BodyRead);
-    Ok(obstacle_of(reads_range, unknown_key, in_body))
+    if is_hindered(paths, ranges, questions, Obstacle::RangeRead) {
+        return Ok(Some(Obstacle::RangeRead));
+    }
+    if is_hindered(paths, ranges, questions, Obstacle::UnknownKey) {
+        return Ok(Some(Obstacle::UnknownKey));
+    }
+    if is_hindered(paths, ranges, questions, Obstacle::BodyRead) {
+        return Ok(Some(Obstacle::BodyRead));
+    }
+    Ok(None)
 }
 
 /// The first exposed question of a pair whose read no keep covers for this reason, or none.
