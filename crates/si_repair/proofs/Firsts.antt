@@ -13,7 +13,7 @@ use Rattle.prog_paths.proofs.Questions.{if_yes, asked_by-append, asked_among-app
 use Rattle.prog_paths.proofs.Order.{law_of_order}
 use Rattle.repair_laws.specs.declared.plan.Pair.{Pair}
 use Rattle.repair_laws.specs.Keys.{ExposedOf}
-use Rattle.si_repair.specs.Exposed.{IsPart, IsFirstOfExposed, IsFirstExposed, ArePlacesOf, IsExposedTo, AreExposedAmong, IsFirstAmong}
+use Rattle.si_repair.specs.Exposed.{IsPart, IsFirstOfExposed, IsFirstExposed, ArePlacesOf, IsExposedTo, AreExposedAmong}
 use Rattle.si_repair.proofs.Exposed.{nothing, only_one, asks-from_misses, read_of, change_of, misses_of, first_moved, more-firsts, in_firsts, in_seconds, of_pair-exposed, AreExposed-from_places}
 use Rattle.si_repair.proofs.Members.{just_one}
 use Rattle.si_repair.proofs.Parts.{part-none, part-whole, part-append, part-contains, part-among}
@@ -72,6 +72,12 @@ in_among firsts seconds first second yes_asks c d =
     (Contains-append_left (asked_by first seconds) (asked_among after seconds) q (in_by first second seconds yes_asks d))))
 
 -- ---- one first access after the other
+
+-- the first such question, or that there is none: no first access ahead of its own has any
+abbrev pub IsFirstAmong : List Path → List Placed → List Placed → Option Question → Type 0
+IsFirstAmong nodes firsts seconds None = AreExposedAmong nodes firsts seconds []
+IsFirstAmong nodes firsts seconds (Some q) =
+    (n : ℕ) × (rest : List Question) × AreExposedAmong nodes (take n firsts) seconds (q ∷ rest)
 
 module _ (nodes : List Path) (n : ℕ) (xs ys : List Placed) (d : Placed) (lt : n < length xs) (before : AreExposedAmong nodes (take n xs) ys []) where
   -- what the next one has first is the first of all

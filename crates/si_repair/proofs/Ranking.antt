@@ -21,7 +21,7 @@ use Rattle.prog_paths.proofs.Marked.{same_access}
 use Rattle.repair_laws.specs.declared.plan.Pair.{Pair}
 use Rattle.repair_laws.specs.Keys.{ExposedOf, IsForcedEqual, IsLeastForced, IsKeyOf}
 use Rattle.si_repair.specs.Exposed.{AreExposed, ArePlacesOf, AreExposedAmong}
-use Rattle.si_repair.specs.Key.{AreMissed, IsMissed, AreFactsOf, PutEqual, AreLeft, ForceEqual, IsEarlier, ArePairsRising, params_with, all_pairs, AreForced, AreForcedAmong}
+use Rattle.si_repair.specs.Key.{AreMissed, IsMissed, AreFactsOf, PutEqual, AreLeft, ForceEqual, IsEarlier, ArePairsRising, params_with, all_pairs, AreForced}
 use Rattle.si_repair.proofs.Exposed.{nothing, only_one, among_first, still_first, last_first, first_moved, of_pair-exposed, AreExposed-from_places}
 
 -- ---- pairs in order
@@ -290,6 +290,16 @@ module _ (nodes : List Path) (pair : Pair) (qs : List Question) (exposed : AreEx
   IsKeyOf-first : (firsts seconds : ℕ) (pairs : List (ℕ × ℕ)) → AreForced nodes qs firsts seconds pairs → IsKeyOf nodes pair firsts seconds (slice_get pairs 0)
   IsKeyOf-first firsts seconds [] h = λ i j a b f. nothing (i, j) (h.each i j a b (by-forced nodes pair qs exposed.only i j f))
   IsKeyOf-first firsts seconds (p ∷ rest) h = least-of firsts seconds p rest h
+
+-- The pairs of parameters that the exposed questions of some accesses to others force equal; or none, where those of the
+-- first few of these accesses force none.
+pub record AreForcedAmong (nodes : List Path) (reads changes : List Placed) (firsts seconds : ℕ)
+    (pairs : List (ℕ × ℕ)) : Type 0 where
+  pub asked : ℕ
+  pub questions : List Question
+  pub exposed : AreExposedAmong nodes (take asked reads) changes questions
+  pub forced : AreForced nodes questions firsts seconds pairs
+  pub all : (length reads ≤ asked) ⊎ (pairs ≡ [])
 
 module _ (nodes : List Path) (pair : Pair) (xs ys : List Placed) (reads : ArePlacesOf nodes pair.from xs) (changes : ArePlacesOf nodes pair.to ys) where
   pub IsKeyOf-among : (firsts seconds : ℕ) (pairs : List (ℕ × ℕ)) → AreForcedAmong nodes xs ys firsts seconds pairs → IsKeyOf nodes pair firsts seconds (slice_get pairs 0)

@@ -1,5 +1,5 @@
 -- The exposed questions of a pair of programs; and, for private clauses, which accesses are exposed to others.
-use Rattle.std.specs.Prelude.{◌≡◌, ◌⊎◌, ℕ, List, [], ◌∷◌, take, All, Contains, Option, Some, None}
+use Rattle.std.specs.Prelude.{◌≡◌, ◌⊎◌, ℕ, List, [], ◌∷◌, All, Contains, Option, Some, None}
 use Rattle.prog_check.specs.declared.path.Path.{Path}
 use Rattle.prog_paths.specs.StaticGraph.{AsksReadWrite, IsExposed}
 use Rattle.prog_paths.specs.declared.accesses.places.Placed.{Placed}
@@ -58,8 +58,8 @@ pub record ArePlacesOf (nodes : List Path) (program : ℕ) (places : List Placed
 pub record ArePlacesOfPair (nodes : List Path) (pair : Pair) (reads changes : List Placed) : Type 0 where
   pub of_first : ArePlacesOf nodes pair.from reads
   pub of_second : ArePlacesOf nodes pair.to changes
-  pub reads_stand : All (λ p. IsAt nodes p) reads
-  pub changes_stand : All (λ p. IsAt nodes p) changes
+  pub reads_stand : All (IsAt nodes) reads
+  pub changes_stand : All (IsAt nodes) changes
 
 -- both use one table, and the first may miss what the second changes
 pub record MayMiss (first second : Placed) : Type 0 where
@@ -87,9 +87,3 @@ pub record AreExposedAmong (nodes : List Path) (firsts seconds : List Placed)
   pub only : (q : Question) → Contains questions q → IsExposedOf nodes firsts seconds q
   pub each : (first second : Placed) → Contains firsts first → Contains seconds second
       → IsExposedTo nodes first second → Contains questions (question_between first second)
-
--- the first such question, or that there is none: no first access ahead of its own has any
-abbrev pub IsFirstAmong : List Path → List Placed → List Placed → Option Question → Type 0
-IsFirstAmong nodes firsts seconds None = AreExposedAmong nodes firsts seconds []
-IsFirstAmong nodes firsts seconds (Some q) =
-    (n : ℕ) × (rest : List Question) × AreExposedAmong nodes (take n firsts) seconds (q ∷ rest)

@@ -1,5 +1,5 @@
 -- Parameters that exposed questions force equal: words of private clauses.
-use Rattle.std.specs.Prelude.{◌≡◌, ℕ, suc, zero, ◌<◌, ◌≤◌, ◌⊎◌, List, [], ◌∷◌, ◌++◌, length, take, Contains}
+use Rattle.std.specs.Prelude.{◌≡◌, ℕ, suc, zero, ◌<◌, ◌⊎◌, List, [], ◌∷◌, ◌++◌, Contains}
 use Rattle.order_facts.specs.declared.steps.Node.TheVariants.{Mine, Theirs}
 use Rattle.order_facts.specs.declared.steps.Fact.{Fact}
 use Rattle.order_facts.specs.Chain.{ForcesEqual}
@@ -8,10 +8,8 @@ use Rattle.prog_check.specs.declared.path.Access.{Access}
 use Rattle.prog_check.specs.declared.path.Path.{Path}
 use Rattle.prog_paths.specs.Facts.{question_facts, AreEqualWhereTheyMeet}
 use Rattle.prog_paths.specs.StaticGraph.{AsksOf, AsksReadWrite}
-use Rattle.prog_paths.specs.declared.accesses.places.Placed.{Placed}
 use Rattle.prog_paths.specs.declared.accesses.places.Question.{Question}
 use Rattle.prog_paths.specs.Questions.{numbers_of}
-use Rattle.si_repair.specs.Exposed.{AreExposedAmong}
 
 -- the two accesses are those of a question whose first may miss what its second changes
 pub record AreMissed (nodes : List Path) (q : Question) (mine theirs : Access) : Type 0 where
@@ -70,13 +68,3 @@ pub record AreForced (nodes : List Path) (questions : List Question) (firsts sec
   pub only : (i j : ℕ) → Contains pairs (i, j) → (i < firsts) × (j < seconds) × ForceEqual nodes questions i j
   pub each : (i j : ℕ) → i < firsts → j < seconds → ForceEqual nodes questions i j → Contains pairs (i, j)
   pub rise : ArePairsRising pairs
-
--- The pairs of parameters that the exposed questions of some accesses to others force equal; or none, where those of the
--- first few of these accesses force none.
-pub record AreForcedAmong (nodes : List Path) (reads changes : List Placed) (firsts seconds : ℕ)
-    (pairs : List (ℕ × ℕ)) : Type 0 where
-  pub asked : ℕ
-  pub questions : List Question
-  pub exposed : AreExposedAmong nodes (take asked reads) changes questions
-  pub forced : AreForced nodes questions firsts seconds pairs
-  pub all : (length reads ≤ asked) ⊎ (pairs ≡ [])

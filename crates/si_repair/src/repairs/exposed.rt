@@ -4,7 +4,7 @@ ghost use Rattle.prog_paths.specs.Questions.{ChangesSingleCells, numbers_of, que
 ghost use Rattle.prog_paths.specs.Places.{IsAt};
 ghost use Rattle.prog_paths.specs.StaticGraph.{IsAccessOf};
 ghost use Rattle.conflict_pairs.specs.Verdicts.{TellsExposed};
-ghost use Rattle.si_repair.specs.Exposed.{AreExposed, IsFirstExposed, ArePlacesOfPair, MayMiss, IsExposedTo, AreExposedAmong, IsFirstAmong};
+ghost use Rattle.si_repair.specs.Exposed.{AreExposed, IsFirstExposed, ArePlacesOfPair, MayMiss, IsExposedTo, AreExposedAmong};
 ghost use Rattle.conflict_pairs.specs.Alike.{HasAccess};
 
 use conflict_pairs::is_exposed_question;
@@ -30,6 +30,7 @@ pub struct PairPlaces {
     pub changes: Vec<Placed>,
 }
 
+/// The accesses of the paths of both, each at its place.
 pub fn places_of_pair(alloc: Global, paths: &[Path], pair: Pair) -> Result<PairPlaces, AllocError>
     ensures { IfOk result (λ places.
         ArePlacesOfPair paths.now pair places.reads.items places.changes.items) }
@@ -93,7 +94,7 @@ pub fn exposed_to(
 ) -> Result<Vec<Question>, AllocError>
     requires single { All ChangesSingleCells paths.now }
     requires first { IsAt paths.now first.now }
-    requires seconds { All (λ p. IsAt paths.now p) seconds.now }
+    requires seconds { All (IsAt paths.now) seconds.now }
     ensures { IfOk result (λ questions.
         AreExposedAmong paths.now (first.now ∷ []) seconds.now questions.items) }
 {
@@ -102,27 +103,6 @@ pub fn exposed_to(
         if is_exposed(alloc, paths, first, second)? {
             questions.push(question_between(first, second))?;
         }
-    }
-    Ok(questions)
-}
-
-/// The questions of accesses that are exposed to some of others.
-fn exposed_among(
-    alloc: Global,
-    paths: &[Path],
-    firsts: &[Placed],
-    seconds: &[Placed],
-) -> Result<Vec<Question>, AllocError>
-    requires single { All ChangesSingleCells paths.now }
-    requires firsts { All (λ p. IsAt paths.now p) firsts.now }
-    requires seconds { All (λ p. IsAt paths.now p) seconds.now }
-    ensures { IfOk result (λ questions.
-        AreExposedAmong paths.now firsts.now seconds.now questions.items) }
-{
-    let mut questions = Vec::new(alloc);
-    for first in firsts {
-        let exposed = exposed_to(alloc, paths, first, seconds)?;
-        questions.extend_from_slice(&exposed)?;
     }
     Ok(questions)
 }
@@ -137,30 +117,15 @@ pub fn exposed_questions(
     requires { All ChangesSingleCells paths.now }
     ensures { IfOk result (λ questions. AreExposed paths.now pair questions.items) }
 {
-    let PairPlaces { reads, changes } = places_of_pair(alloc, paths, pair)?;
-    exposed_among(alloc, paths, &reads, &changes)
-}
-
-/// The first question of an access that is exposed to another, or none.
-fn first_among(
-    alloc: Global,
-    paths: &[Path],
-    firsts: &[Placed],
-    seconds: &[Placed],
-) -> Result<Option<Question>, AllocError>
-    requires single { All ChangesSingleCells paths.now }
-    requires firsts { All (λ p. IsAt paths.now p) firsts.now }
-    requires seconds { All (λ p. IsAt paths.now p) seconds.now }
-    ensures { IfOk result (λ found. IsFirstAmong paths.now firsts.now seconds.now found) }
-{
-    for place in firsts {
-        let questions = exposed_to(alloc, paths, place, seconds)?;
-        let found = questions.first().copied();
-        if found.is_some() {
-            return Ok(found);
-        }
+    let places = places_of_pair(alloc, paths, pair)?;
+    let reads = places.reads.as_slice();
+    let changes = places.changes.as_slice();
+    let mut questions = Vec::new(alloc);
+    for read in reads {
+        let exposed = exposed_to(alloc, paths, read, changes)?;
+        questions.extend_from_slice(&exposed)?;
     }
-    Ok(None)
+    Ok(questions)
 }
 
 /// The first of the exposed questions of a pair, or none; of no access behind the one that asks it
@@ -173,6 +138,15 @@ pub fn first_exposed(
     requires { All ChangesSingleCells paths.now }
     ensures { IfOk result (λ found. IsFirstExposed paths.now pair found) }
 {
-    let PairPlaces { reads, changes } = places_of_pair(alloc, paths, pair)?;
-    first_among(alloc, paths, &reads, &changes)
+    let places = places_of_pair(alloc, paths, pair)?;
+    let reads = places.reads.as_slice();
+    let changes = places.changes.as_slice();
+    for place in reads {
+        let questions = exposed_to(alloc, paths, place, changes)?;
+        let found = questions.first().copied();
+        if found.is_some() {
+            return Ok(found);
+        }
+    }
+    Ok(None)
 }

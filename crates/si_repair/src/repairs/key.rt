@@ -1,15 +1,14 @@
 //! The key under which the two programs of a pair meet.
 ghost use Rattle.std.specs.Prelude.{◌≡◌, ◌↔◌, ◌++◌, ℕ, List, All, IfOk, OnOk, IsTrue};
 ghost use Rattle.prog_paths.specs.Questions.{ChangesSingleCells};
-ghost use Rattle.prog_paths.specs.Places.{IsAt};
 ghost use Rattle.prog_paths.specs.declared.accesses.places.Question.{Question as Asked};
 ghost use Rattle.repair_laws.specs.Keys.{IsKeyOf};
-ghost use Rattle.si_repair.specs.Key.{IsMissed, AreFactsOf, PutEqual, AreLeft, AreForced, AreForcedAmong, params_with, all_pairs};
+ghost use Rattle.si_repair.specs.Key.{IsMissed, AreFactsOf, PutEqual, AreLeft, AreForced, params_with, all_pairs};
 
-use crate::repairs::exposed::{PairPlaces, access_at, exposed_to, places_of_pair};
+use crate::repairs::exposed::{access_at, exposed_to, places_of_pair};
 use order_facts::{Closed, Node};
 use prog_check::Path;
-use prog_paths::{Placed, Question, closed_facts};
+use prog_paths::{Question, closed_facts};
 use repair_laws::Pair;
 use std::alloc::{AllocError, Global};
 
@@ -51,11 +50,11 @@ fn left_by(
 fn push_pairs(
     pairs: &mut Vec<(usize, usize)>,
     first: usize,
-    seconds: usize,
+    second_count: usize,
 ) -> Result<(), AllocError>
-    ensures { OnOk result (pairs.new.items ≡ pairs.old.items ++ params_with first seconds) }
+    ensures { OnOk result (pairs.new.items ≡ pairs.old.items ++ params_with first second_count) }
 {
-    for second in 0..seconds {
+    for second in 0..second_count {
         pairs.push((first, second))?;
     }
     Ok(())
@@ -64,14 +63,14 @@ fn push_pairs(
 /// Each of so many parameters with each of so many others, in order.
 fn all_pairs(
     alloc: Global,
-    firsts: usize,
-    seconds: usize,
+    first_count: usize,
+    second_count: usize,
 ) -> Result<Vec<(usize, usize)>, AllocError>
-    ensures { IfOk result (λ pairs. pairs.items ≡ all_pairs firsts seconds) }
+    ensures { IfOk result (λ pairs. pairs.items ≡ all_pairs first_count second_count) }
 {
     let mut pairs = Vec::new(alloc);
-    for first in 0..firsts {
-        push_pairs(&mut pairs, first, seconds)?;
+    for first in 0..first_count {
+        push_pairs(&mut pairs, first, second_count)?;
     }
     Ok(pairs)
 }
@@ -97,46 +96,29 @@ fn left_of(
     Ok(left)
 }
 
-/// The pairs of parameters that each exposed question of some accesses to others forces equal. No
-/// more is asked where none is left.
-fn forced_pairs(
-    alloc: Global,
-    paths: &[Path],
-    reads: &[Placed],
-    changes: &[Placed],
-    firsts: usize,
-    seconds: usize,
-) -> Result<Vec<(usize, usize)>, AllocError>
-    requires single { All ChangesSingleCells paths.now }
-    requires reads { All (λ p. IsAt paths.now p) reads.now }
-    requires changes { All (λ p. IsAt paths.now p) changes.now }
-    ensures { IfOk result (λ pairs.
-        AreForcedAmong paths.now reads.now changes.now firsts seconds pairs.items) }
-{
-    let mut pairs = all_pairs(alloc, firsts, seconds)?;
-    for read in reads {
-        if pairs.is_empty() {
-            return Ok(pairs);
-        }
-        let questions = exposed_to(alloc, paths, read, changes)?;
-        pairs = left_of(alloc, paths, &questions, pairs)?;
-    }
-    Ok(pairs)
-}
-
 /// The least parameters of a pair's two programs, which have so many each, that every exposed
-/// question of the pair forces equal.
+/// question of the pair forces equal. No more is asked where none are left.
 pub fn key_of(
     alloc: Global,
     paths: &[Path],
     pair: Pair,
-    firsts: usize,
-    seconds: usize,
+    first_count: usize,
+    second_count: usize,
 ) -> Result<Option<(usize, usize)>, AllocError>
     requires { All ChangesSingleCells paths.now }
-    ensures { IfOk result (λ key. IsKeyOf paths.now pair firsts seconds key) }
+    ensures { IfOk result (λ key. IsKeyOf paths.now pair first_count second_count key) }
 {
-    let PairPlaces { reads, changes } = places_of_pair(alloc, paths, pair)?;
-    let forced = forced_pairs(alloc, paths, &reads, &changes, firsts, seconds)?;
-    Ok(forced.first().copied())
+    let places = places_of_pair(alloc, paths, pair)?;
+    let reads = places.reads.as_slice();
+    let changes = places.changes.as_slice();
+    let mut pairs = all_pairs(alloc, first_count, second_count)?;
+    for read in reads {
+        if pairs.is_empty() {
+            return Ok(None);
+        }
+        let questions = exposed_to(alloc, paths, read, changes)?;
+        pairs = left_of(alloc, paths, &questions, pairs)?;
+    }
+    let left = pairs.as_slice();
+    Ok(left.first().copied())
 }

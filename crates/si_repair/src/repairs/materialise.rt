@@ -47,9 +47,9 @@ fn push_new_table(
         → AreNewTables (draft_tree set.now) (earlier ++ pair ∷ []) made.new.items) }
 {
     let table = free_name(alloc, set, made)?;
-    let firsts = params_of(set.draft(), pair.from);
-    let seconds = params_of(set.draft(), pair.to);
-    let key = key_of(alloc, paths, pair, firsts, seconds)?;
+    let first_count = params_of(set.draft(), pair.from);
+    let second_count = params_of(set.draft(), pair.to);
+    let key = key_of(alloc, paths, pair, first_count, second_count)?;
     made.push(NewTable { pair, table, key })?;
     Ok(())
 }

@@ -23,10 +23,10 @@ returns c earlier met =
     let key = c.in_ok-key.key in
     let made = c.args.made.now.items in
     let m : NewTable = record { pair = pair; table = c.in_ok-table.table; key = key } in
-    let firsts = c.params_of-firsts.ensures ∙ ap (λ (d : Draft). params_of (draft_tree d) pair.from) c.draft.ensures.same in
-    let seconds = c.params_of-seconds.ensures ∙ ap (λ (d : Draft). params_of (draft_tree d) pair.to) c.draft-2.ensures.same in
-    let by_paths = subst (λ (l : List Path). IsKeyOf l pair c.params_of-firsts.result c.params_of-seconds.result key) c.requires c.in_ok-key.ensures in
-    let by_firsts = subst (λ (n : ℕ). IsKeyOf (paths_of draft) pair n c.params_of-seconds.result key) firsts by_paths in
+    let firsts = c.params_of-first_count.ensures ∙ ap (λ (d : Draft). params_of (draft_tree d) pair.from) c.draft.ensures.same in
+    let seconds = c.params_of-second_count.ensures ∙ ap (λ (d : Draft). params_of (draft_tree d) pair.to) c.draft-2.ensures.same in
+    let by_paths = subst (λ (l : List Path). IsKeyOf l pair c.params_of-first_count.result c.params_of-second_count.result key) c.requires c.in_ok-key.ensures in
+    let by_firsts = subst (λ (n : ℕ). IsKeyOf (paths_of draft) pair n c.params_of-second_count.result key) firsts by_paths in
     let own = subst (λ (n : ℕ). IsKeyOf (paths_of draft) pair (params_of draft pair.from) n key) seconds by_firsts in
     let free = subst (λ (l : List NewTable). IsLeastFree (taken_names draft l) m.table) c.deref.ensures.value c.in_ok-table.ensures in
     subst (λ (l : List NewTable). AreNewTables draft (earlier ++ pair ∷ []) l) (sym c.in_ok-push.ensures.items) (met_more draft earlier made m met free own)
