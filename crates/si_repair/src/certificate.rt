@@ -17,7 +17,7 @@ use robust_cert::{Certificate, Entries, EntryQuestion, Reason, Told, body_size};
 use std::alloc::{AllocError, Global};
 
 /// A number as a certificate has it.
-pub(crate) fn as_u32(number: usize) -> u32
+pub fn as_u32(number: usize) -> u32
     requires { IsSmall number }
     ensures { result ≡ number }
 {

@@ -9,7 +9,7 @@ use prog_tree::Draft;
 use std::alloc::{AllocError, Global};
 
 /// The set of a repaired draft, or none where that breaks a limit.
-pub(crate) fn checked_set(alloc: Global, draft: Draft) -> Result<Option<ProgramSet>, AllocError>
+pub fn checked_set(alloc: Global, draft: Draft) -> Result<Option<ProgramSet>, AllocError>
     ensures made { IfOk result (λ o. IfSome o (λ s. draft_tree s ≡ draft_tree draft)) }
     ensures sound { IfOk result (λ o. IfSome o (λ s. IsSound (draft_tree s))) }
     ensures refused { IfOk result (λ o. IfNone o (IsRefused (draft_tree draft))) }

@@ -90,7 +90,7 @@ fn all_with_front(
 }
 
 /// The draft with a new table for each pair, and the keeps in front of its programs.
-pub(crate) fn materialised_draft(
+pub fn materialised_draft(
     alloc: Global,
     draft: &Draft,
     made: &[NewTable],

@@ -61,7 +61,7 @@ fn keep_in(table: &Name, params: &[Name], column: Option<usize>) -> Result<Stmt,
 }
 
 /// The statements that a program of these parameters keeps for a pair.
-pub(crate) fn keeps_for(
+pub fn keeps_for(
     alloc: Global,
     program: usize,
     params: &[Name],

@@ -30,11 +30,7 @@ fn is_taken(set: &ProgramSet, made: &[NewTable], name: &str) -> bool
 }
 
 /// The first of `mat_0`, `mat_1` and so on that names no table, new tables counted.
-pub(crate) fn free_name(
-    alloc: Global,
-    set: &ProgramSet,
-    made: &[NewTable],
-) -> Result<Name, AllocError>
+pub fn free_name(alloc: Global, set: &ProgramSet, made: &[NewTable]) -> Result<Name, AllocError>
     ensures { IfOk result (IsLeastFree (taken_names (draft_tree set.now) made.now)) }
 {
     let taken = set.draft().tables.len() + made.len();

@@ -56,11 +56,7 @@ fn push_block(ranges: &mut Vec<bool>, block: &Block) -> Result<(), AllocError>
 }
 
 /// For each statement of the program of a number whether it is a range.
-pub(crate) fn ranges_of(
-    alloc: Global,
-    draft: &Draft,
-    program: usize,
-) -> Result<Vec<bool>, AllocError>
+pub fn ranges_of(alloc: Global, draft: &Draft, program: usize) -> Result<Vec<bool>, AllocError>
     ensures { IfOk result (λ ranges.
         ranges.items ≡ program_ranges (slice_get (draft_tree draft.now).programs program)) }
 {
@@ -71,7 +67,7 @@ pub(crate) fn ranges_of(
     Ok(ranges)
 }
 
-pub(crate) fn is_range(ranges: &[bool], number: usize) -> bool
+pub fn is_range(ranges: &[bool], number: usize) -> bool
     ensures { result ≡ slice_index_or ranges.now number false }
 {
     ranges.get(number).copied().unwrap_or(false)
