@@ -18,7 +18,7 @@ use Rattle.repair_laws.specs.declared.plan.NewTable.{NewTable}
 use Rattle.repair_laws.specs.declared.plan.Pair.{Pair}
 use Rattle.repair_laws.specs.Keys.{IsKeyOf, IsLeastForced}
 use Rattle.repair_laws.specs.Materialised.{mat_name, plain_table, IsLeastFree, AreLeastFree, params_of, HasKey, AreNewTables, all_with_front, materialised_by, IsMaterialised}
-use Rattle.repair_laws.specs.Refusals.{IsTooLarge, IsTooLargeBy, Reason, StopsMaterialising}
+use Rattle.repair_laws.specs.Refusals.{IsTooLarge, IsTooLargeBy, StopReason, StopsMaterialising}
 use Rattle.repair_laws.specs.Refusals as why
 use Rattle.repair_laws.proofs.Materialising.{law_of_materialising}
 use Rattle.repair_laws.proofs.RightLaws.{law_of_repair_sizes}
@@ -161,7 +161,7 @@ refused_at draft plan place pair result sound at made small refused = record {
   first = first;
 }
   where
-    first : (n : ℕ) (earlier : Pair) (reason : Reason) → n < place → slice_get plan n ≡ Some earlier → StopsMaterialising draft plan n earlier reason → ⊥
+    first : (n : ℕ) (earlier : Pair) (reason : StopReason) → n < place → slice_get plan n ≡ Some earlier → StopsMaterialising draft plan n earlier reason → ⊥
     first n earlier why.RangeRead less here stops = stops
     first n earlier why.UnknownKey less here stops = stops
     first n earlier why.BodyRead less here stops = stops

@@ -13,7 +13,7 @@ use Rattle.prog_check.specs.Paths.{paths_of}
 use Rattle.prog_check.specs.Sound.{IsSound}
 use Rattle.repair_laws.specs.declared.plan.Pair.{Pair}
 use Rattle.repair_laws.specs.Promoted.{promoted_by, IsPromoted}
-use Rattle.repair_laws.specs.Refusals.{IsCoverable, IsTooLarge, IsTooLargeBy, Reason, StopsPromotion, IsFirstStop}
+use Rattle.repair_laws.specs.Refusals.{IsCoverable, IsTooLarge, IsTooLargeBy, StopReason, StopsPromotion, IsFirstStop}
 use Rattle.repair_laws.specs.Refusals as why
 use Rattle.repair_laws.specs.Safety.{MayPromote}
 use Rattle.repair_laws.proofs.Promoting.{law_of_promoting}
@@ -101,7 +101,7 @@ coverable_at draft plan coverable n d own inside =
 -- no pair of a plan before this place stops it
 abbrev pub StopsBefore : DraftTree → List Pair → ℕ → Type 0
 StopsBefore draft plan n =
-    (k : ℕ) (pair : Pair) (reason : Reason) → k < n → slice_get plan k ≡ Some pair → StopsPromotion draft plan k pair reason → ⊥
+    (k : ℕ) (pair : Pair) (reason : StopReason) → k < n → slice_get plan k ≡ Some pair → StopsPromotion draft plan k pair reason → ⊥
 
 contains-first : (plan : List Pair) (n k : ℕ) (pair : Pair) → k < n → slice_get plan k ≡ Some pair → Contains (take n plan) pair
 contains-first plan n k pair less at = (k, inside, get_or-take n plan k pair less ∙ get_or_from_slice_get plan k pair pair at)
@@ -179,7 +179,7 @@ some_coverable draft pairs [] sound own (result, made, refused) =
     absurd (small_fits draft (sound_small draft sound) (subst (λ (d : DraftTree). IsTooLarge d) same large))
 some_coverable draft pairs (c ∷ cs) sound own refused = omega arith
 
-stopping : (draft : DraftTree) (plan : List Pair) (n : ℕ) (pair : Pair) (reason : Reason) → slice_get plan n ≡ Some pair → StopsBefore draft plan n
+stopping : (draft : DraftTree) (plan : List Pair) (n : ℕ) (pair : Pair) (reason : StopReason) → slice_get plan n ≡ Some pair → StopsBefore draft plan n
     → StopsPromotion draft plan n pair reason → IsFirstStop (StopsPromotion draft plan) plan pair reason
 stopping draft plan n pair reason at passed stops = record {
   place = n;

@@ -12,7 +12,7 @@ use Rattle.repair_laws.specs.Materialised.{IsMaterialised}
 use Rattle.repair_laws.specs.Plans.{IsPlan}
 use Rattle.repair_laws.specs.Meaning.{KeepsAllMeaning}
 use Rattle.repair_laws.specs.Promoted.{IsPromoted}
-use Rattle.repair_laws.specs.Refusals.{Reason, StopsMaterialising, StopsPromotion}
+use Rattle.repair_laws.specs.Refusals.{StopReason, StopsMaterialising, StopsPromotion}
 use Rattle.robust_cert.specs.declared.certificate.Certificate.{Certificate}
 use Rattle.robust_cert.specs.Accepted.{IsAccepted}
 use Rattle.si_repair.specs.declared.repairs.fault.RepairFault.{RepairFault}
@@ -103,7 +103,7 @@ IsRepairBy true = IsPromoted
 IsRepairBy false = IsMaterialised
 
 -- why the pair at a place of a plan stops it
-abbrev pub StopsRepair : (promote : Bool) → DraftTree → List Pair → ℕ → Pair → Reason → Type 0
+abbrev pub StopsRepair : (promote : Bool) → DraftTree → List Pair → ℕ → Pair → StopReason → Type 0
 StopsRepair true = StopsPromotion
 StopsRepair false = StopsMaterialising
 
