@@ -1,6 +1,6 @@
 //! What a table's questions with their verdicts make of the graph.
 
-ghost use Rattle.std.specs.Prelude.{◌≡◌, ◌<◌, length, IsTrue, false};
+ghost use Rattle.std.specs.Prelude.{◌≡◌, ◌↔◌, ◌<◌, length, IsTrue, false};
 ghost use Rattle.dep_graph.specs.Marks.{mark_at, marks_of};
 
 use conflict_pairs::PairTable;
@@ -31,8 +31,9 @@ pub fn no_mark() -> Mark
     }
 }
 
+/// Whether two marks give the same.
 pub fn is_same(one: Mark, other: Mark) -> bool
-    ensures { IsTrue result → one ≡ other }
+    ensures { IsTrue result ↔ (one ≡ other) }
 {
     one.x == other.x
         && one.y == other.y

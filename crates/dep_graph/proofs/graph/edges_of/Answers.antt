@@ -47,7 +47,7 @@ loop-n-preserved c =
                 (All-weaker (IsEntered old) (IsEntered new) (λ m h. IsEntered-kept old new mark m w.enter.ensures h) last before.remembered);
           })
       | else-not-is_same w ↦
-          let found = c.is_same.ensures w.if-not-is_same.false ∙ c.entry_mark-mark.ensures in
+          let found = c.is_same.ensures.0 w.if-not-is_same.false ∙ c.entry_mark-mark.ensures in
           let made = EntersMark-known old _ (subst (λ (m : Mark). IsEntered old m) found (before.remembered slot _ within)) in
           rw (w.tables-is, w.last-is) (record {
             edges = IsSquareOf-entered gives_edge marks t.nodes n old.edges old.edges inside before.edges made.edges;
