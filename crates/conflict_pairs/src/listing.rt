@@ -95,7 +95,7 @@ pub struct Questions {
 }
 
 /// The questions of a list of paths. They are counted before any memory is taken.
-pub fn questions_of(alloc: Global, paths: &[Path]) -> Result<Questions, PairFault>
+pub fn numbered_questions(alloc: Global, paths: &[Path]) -> Result<Questions, PairFault>
     ensures listed { IfOk result (AreQuestionsOf paths.now) }
     ensures few { OnOk result (length (questions_of paths.now) ≤ most_questions) }
     ensures too_large { (result ≡ Err PairFault.TooLarge)
@@ -146,7 +146,7 @@ pub fn pairs(alloc: Global, paths: &[Path]) -> Result<PairTable, PairFault>
     ensures too_large { (result ≡ Err PairFault.TooLarge)
         ↔ (most_questions < length (questions_of paths.now)) }
 {
-    let questions = questions_of(alloc, paths)?;
+    let questions = numbered_questions(alloc, paths)?;
     let verdicts = verdicts_of(alloc, paths, &questions.places, &questions.judged)?;
     Ok(table_of(paths, questions, verdicts))
 }

@@ -9,7 +9,7 @@ ghost use Rattle.conflict_pairs.specs.Table.{verdicts_in, StandsFor};
 use crate::fault::PairFault;
 use crate::judge::verdicts_of;
 use crate::limits::{EQUAL_PARTS, MIN_QUESTIONS_OF_THREADS};
-use crate::listing::{questions_of, table_of};
+use crate::listing::{numbered_questions, table_of};
 use crate::pairing::PlacePair;
 use crate::table::PairTable;
 use crate::verdicts::Verdict;
@@ -82,7 +82,7 @@ pub fn pairs_par(
     ensures too_large { (result ≡ Err PairFault.TooLarge)
         ↔ (most_questions < length (questions_of paths.now)) }
 {
-    let questions = questions_of(alloc, paths)?;
+    let questions = numbered_questions(alloc, paths)?;
     let parts = parts_of(rt, alloc, paths, &questions.places, &questions.judged)?;
     let verdicts = all_verdicts(alloc, questions.judged.len(), parts)?;
     Ok(table_of(paths, questions, verdicts))

@@ -9,7 +9,7 @@ use Rattle.conflict_pairs.specs.Interning.{AreInterned}
 use Rattle.conflict_pairs.specs.Classes.{starts_from}
 use Rattle.conflict_pairs.specs.Pairing.{IsAskedAt, IsAskedBetween, HasPlaces, StandsAt, asked_at, questions_at}
 use Rattle.conflict_pairs.proofs.Paired.{all-stand, asked-pairs, shown-pairs}
-use Rattle.conflict_pairs.proofs.listing.questions_of.Goals as goal
+use Rattle.conflict_pairs.proofs.listing.numbered_questions.Goals as goal
 
 pub all_questions-requires-clause-stand : goal.all_questions-requires-clause-stand
 all_questions-requires-clause-stand c =
