@@ -13,9 +13,9 @@ use Rattle.conflict_pairs.specs.declared.verdicts.Verdict.{Verdict}
 use Rattle.conflict_pairs.specs.declared.verdicts.Verdict.TheVariants.{Apart}
 use Rattle.conflict_pairs.specs.Table.{Judged, Table, verdict_at, entry_by, entries_of, IsOnQuestion, IsRightEntry, StandsFor}
 use Rattle.conflict_pairs.specs.Interning.{IsServed}
-use Rattle.conflict_pairs.specs.Alike.{IsAsked, IsLike, IsJudgedAt}
-use Rattle.conflict_pairs.proofs.Serving.{served-within}
-use Rattle.conflict_pairs.proofs.Zipped.{AllZip-at, AllZip-lengths}
+use Rattle.conflict_pairs.specs.Alike.{IsAsked, IsLike, IsJudgedAt, IsOnAsked}
+use Rattle.conflict_pairs.proofs.Serving.{served-at, served-within}
+use Rattle.conflict_pairs.proofs.Zipped.{AllZip-lengths}
 use Rattle.conflict_pairs.proofs.Likeness.{judged-like, right-judged}
 
 -- an element that is there doesn't depend on what stands for a missing one
@@ -73,49 +73,63 @@ IsAskedOf-from_asked paths q h =
     subst (λ (r : Question). IsAskedOf paths r) (sym h.is)
     (record { mine = h.first.access; theirs = h.second.access; asked = record { at_mine = h.at_first; at_theirs = h.at_second; table = k.0 }; mine_kind = refl; their_kind = refl; asks = k.1 })
 
--- each verdict is on the question that was judged
-pub verdicts-right : (paths : List Path) → All ChangesSingleCells paths → (judged : List Question) (vs : List Verdict) → All (IsAsked paths) judged → AllZip (IsJudgedAt paths) judged vs → All (IsOnQuestion paths) vs
-verdicts-right paths single [] [] h k = All-nil (IsOnQuestion paths)
-verdicts-right paths single [] (v ∷ vs) h k = absurd k
-verdicts-right paths single (q ∷ qs) [] h k = absurd k
-verdicts-right paths single (q ∷ qs) (v ∷ vs) h k =
-    let asked = All-head (IsAsked paths) q qs h in
+-- each verdict is on some question of the paths
+pub verdicts-right : (paths : List Path) → All ChangesSingleCells paths → (vs : List Verdict) → All (IsOnAsked paths) vs → All (IsOnQuestion paths) vs
+verdicts-right paths single [] h = All-nil (IsOnQuestion paths)
+verdicts-right paths single (v ∷ vs) h =
+    let its = All-head (IsOnAsked paths) v vs h in
     All-cons (IsOnQuestion paths) v vs
-    (record { question = q; asked = IsAskedOf-from_asked paths q asked; right = right-judged paths q single asked v k.0 })
-    (verdicts-right paths single qs vs (All-tail (IsAsked paths) q qs h) k.1)
+    (record { question = its.question; asked = IsAskedOf-from_asked paths its.question its.asked; right = right-judged paths its.question single its.asked v its.judged })
+    (verdicts-right paths single vs (All-tail (IsOnAsked paths) v vs h))
+
+-- ---- the verdict of the judged question that stands for another
+
+module _ (paths : List Path) (vs : List Verdict) (ms : List ℕ) (judged : List Question) (answered : AllZip (IsServed (IsJudgedAt paths) vs) judged ms) where
+  through : (q : Question) (n : ℕ) → IsServed (IsLike paths) judged q n → IsServed (IsJudgedAt paths) vs q (get_or ms n 0)
+  through q n h =
+      let its = served-at (IsJudgedAt paths) vs judged ms n h.value (get_or ms n 0) 0 answered h.at refl in
+      record { value = its.value; at = its.at; serves = judged-like paths q h.value its.value h.serves its.serves }
+
+  pub all-through : (qs : List Question) (ns : List ℕ) → AllZip (IsServed (IsLike paths) judged) qs ns → AllZip (IsServed (IsJudgedAt paths) vs) qs (map (λ n. get_or ms n 0) ns)
+  all-through [] [] h = tt
+  all-through [] (n ∷ ns) h = absurd h
+  all-through (q ∷ qs) [] h = absurd h
+  all-through (q ∷ qs) (n ∷ ns) h = (through q n h.0, all-through qs ns h.1)
+
+  pub judged-within : (qs : List Question) (ns : List ℕ) → AllZip (IsServed (IsLike paths) judged) qs ns → All (λ n. n < length ms) ns
+  judged-within [] [] h = All-nil (λ n. n < length ms)
+  judged-within [] (n ∷ ns) h = absurd h
+  judged-within (q ∷ qs) [] h = absurd h
+  judged-within (q ∷ qs) (n ∷ ns) h =
+      All-cons (λ n. n < length ms) n ns
+      (subst (λ (k : ℕ). n < k) (AllZip-lengths (IsServed (IsJudgedAt paths) vs) judged ms answered) (served-within (IsLike paths) judged q n h.0))
+      (judged-within qs ns h.1)
 
 -- ---- right entries
 
-module _ (paths : List Path) (judged : List Question) (vs : List Verdict) (asked : All (IsAsked paths) judged) (answered : AllZip (IsJudgedAt paths) judged vs) where
-  -- the verdict on the question that stands for another says what the facts say of this one
-  stands-judged : (q : Question) (n : ℕ) → IsServed (IsLike paths) judged q n → IsJudgedAt paths q (verdict_at vs n)
-  stands-judged q n h =
-      judged-like paths q h.value (verdict_at vs n) h.serves
-      (subst (λ (r : Question). IsJudgedAt paths r (verdict_at vs n)) (get_or_from_slice_get judged n h.value h.value h.at)
-      (AllZip-at (IsJudgedAt paths) judged vs n h.value (Apart []) answered (served-within (IsLike paths) judged q n h)))
+module _ (paths : List Path) (vs : List Verdict) where
+  judged-at : (q : Question) (n : ℕ) → IsServed (IsJudgedAt paths) vs q n → IsJudgedAt paths q (verdict_at vs n)
+  judged-at q n h = subst (λ (v : Verdict). IsJudgedAt paths q v) (sym (get_or_from_slice_get vs n h.value (Apart []) h.at)) h.serves
 
-  pub numbers-within : (qs : List Question) (ns : List ℕ) → AllZip (IsServed (IsLike paths) judged) qs ns → All (λ n. n < length vs) ns
+  pub numbers-within : (qs : List Question) (ns : List ℕ) → AllZip (IsServed (IsJudgedAt paths) vs) qs ns → All (λ n. n < length vs) ns
   numbers-within [] [] h = All-nil (λ n. n < length vs)
   numbers-within [] (n ∷ ns) h = absurd h
   numbers-within (q ∷ qs) [] h = absurd h
-  numbers-within (q ∷ qs) (n ∷ ns) h =
-      All-cons (λ n. n < length vs) n ns
-      (subst (λ (k : ℕ). n < k) (AllZip-lengths (IsJudgedAt paths) judged vs answered) (served-within (IsLike paths) judged q n h.0))
-      (numbers-within qs ns h.1)
+  numbers-within (q ∷ qs) (n ∷ ns) h = All-cons (λ n. n < length vs) n ns (served-within (IsJudgedAt paths) vs q n h.0) (numbers-within qs ns h.1)
 
-  pub entries-right : All ChangesSingleCells paths → (qs : List Question) (ns : List ℕ) → All (IsAsked paths) qs → AllZip (IsServed (IsLike paths) judged) qs ns → All (λ e. IsRightEntry paths e) (entries_of vs qs ns)
+  pub entries-right : All ChangesSingleCells paths → (qs : List Question) (ns : List ℕ) → All (IsAsked paths) qs → AllZip (IsServed (IsJudgedAt paths) vs) qs ns → All (λ e. IsRightEntry paths e) (entries_of vs qs ns)
   entries-right single [] ns h k = All-nil (λ (e : Judged). IsRightEntry paths e)
   entries-right single (q ∷ qs) [] h k = absurd k
   entries-right single (q ∷ qs) (n ∷ ns) h k =
       All-cons (λ (e : Judged). IsRightEntry paths e) (entry_by vs q n) (entries_of vs qs ns)
-      (right-judged paths q single (All-head (IsAsked paths) q qs h) (verdict_at vs n) (stands-judged q n k.0))
+      (right-judged paths q single (All-head (IsAsked paths) q qs h) (verdict_at vs n) (judged-at q n k.0))
       (entries-right single qs ns (All-tail (IsAsked paths) q qs h) k.1)
 
   -- the table of all questions
-  pub StandsFor-from : All ChangesSingleCells paths → (table : Table) (qs : List Question) (ns : List ℕ) → All (IsAsked paths) qs → AllZip (IsServed (IsLike paths) judged) qs ns → table.nodes ≡ length paths → table.verdicts ≡ vs → table.entries ≡ entries_of vs qs ns → qs ≡ questions_of paths → StandsFor table paths
-  StandsFor-from single table qs ns h k nodes verdicts entries all = record {
+  pub StandsFor-from : All ChangesSingleCells paths → All (IsOnAsked paths) vs → (table : Table) (qs : List Question) (ns : List ℕ) → All (IsAsked paths) qs → AllZip (IsServed (IsJudgedAt paths) vs) qs ns → table.nodes ≡ length paths → table.verdicts ≡ vs → table.entries ≡ entries_of vs qs ns → qs ≡ questions_of paths → StandsFor table paths
+  StandsFor-from single sound table qs ns h k nodes verdicts entries all = record {
     nodes = nodes;
-    questions = ap (map (λ (e : Judged). e.question)) entries ∙ entries-questions vs qs ns (AllZip-lengths (IsServed (IsLike paths) judged) qs ns k) ∙ all;
+    questions = ap (map (λ (e : Judged). e.question)) entries ∙ entries-questions vs qs ns (AllZip-lengths (IsServed (IsJudgedAt paths) vs) qs ns k) ∙ all;
     right = subst (λ (l : List Judged). All (λ e. IsRightEntry paths e) l) (sym entries) (entries-right single qs ns h k);
-    verdicts = subst (λ (l : List Verdict). All (IsOnQuestion paths) l) (sym verdicts) (verdicts-right paths single judged vs asked answered);
+    verdicts = subst (λ (l : List Verdict). All (IsOnQuestion paths) l) (sym verdicts) (verdicts-right paths single vs sound);
   }

@@ -1,35 +1,68 @@
 -- On the questions of which pairs the verdicts of parts are.
-use Rattle.std.proofs.Common.{◌≡◌, ℕ, ◌<◌, List, [], ◌∷◌, ◌++◌, length, take, drop, Vec, Global, append_assoc, append-nil, sym, ap, ◌∙◌, subst, arith, zero, suc, max}
+use Rattle.std.proofs.Common.{◌≡◌, ℕ, ◌+◌, ◌<◌, List, [], ◌∷◌, ◌++◌, length, map, take, drop, append_assoc, append-nil, length-append, sym, ap, ◌∙◌, subst, arith, zero, suc, max}
 use Rattle.std.specs.Prelude.{All}
 use Rattle.std.specs.List.{AllZip, flat_map}
-use Rattle.std.proofs.lemmas.List.Elements.{All-nil, All-cons, All-take, All-drop}
+use Rattle.std.proofs.lemmas.List.Elements.{All-nil, All-cons, All-append, All-take, All-drop}
 use Rattle.prog_check.specs.declared.path.Path.{Path}
 use Rattle.prog_paths.specs.declared.accesses.places.Placed.{Placed}
 use Rattle.rayon.specs.Lists.{chunks_of, chunks_from}
 use Rattle.rayon.proofs.ToStd.{chunks_of-concat}
 use Rattle.conflict_pairs.specs.declared.verdicts.Verdict.{Verdict}
 use Rattle.conflict_pairs.specs.declared.pairing.PlacePair.{PlacePair}
-use Rattle.conflict_pairs.specs.Alike.{IsJudgedAt}
-use Rattle.conflict_pairs.specs.Pairing.{IsAskedBetween, ArePairsJudged, question_at}
-use Rattle.conflict_pairs.specs.Table.{verdicts_in}
+use Rattle.conflict_pairs.specs.declared.sharing.PairVerdicts.{PairVerdicts}
+use Rattle.conflict_pairs.specs.Alike.{IsOnAsked}
+use Rattle.conflict_pairs.specs.Interning.{IsServed}
+use Rattle.conflict_pairs.specs.Pairing.{IsAskedBetween, IsOnPair, ArePairsJudged}
+use Rattle.conflict_pairs.specs.Table.{verdicts_in, numbers_in}
+use Rattle.conflict_pairs.proofs.Sharing.{at-front, at-behind}
 use Rattle.conflict_pairs.proofs.Zipped.{AllZip-append}
 
 abbrev pub Part : Type 0
-Part = Vec Verdict Global
+Part = PairVerdicts
 
 -- ---- the verdicts of chunks of pairs
 
-module _ (paths : List Path) (places : List Placed) where
-  of_chunks : (chunks : List (List PlacePair)) (parts : List Part) → AllZip (λ chunk (part : Part). ArePairsJudged paths places chunk part.items) chunks parts → ArePairsJudged paths places (flat_map (λ l. l) chunks) (verdicts_in parts)
-  of_chunks [] [] h = tt
-  of_chunks [] (p ∷ parts) h = absurd h
-  of_chunks (c ∷ chunks) [] h = absurd h
-  of_chunks (c ∷ chunks) (p ∷ parts) h = AllZip-append (λ (pair : PlacePair). IsJudgedAt paths (question_at places pair)) c (flat_map (λ l. l) chunks) p.items (verdicts_in parts) h.0 (of_chunks chunks parts h.1)
+-- the verdict of a number serves as before among more verdicts, by the number that it has there
+shifted : {Key : Type 0} (R : Key → Verdict → Type 0) (front vs rest : List Verdict) (keys : List Key) (ns : List ℕ) → AllZip (IsServed R vs) keys ns → AllZip (IsServed R (front ++ (vs ++ rest))) keys (map (λ n. length front + n) ns)
+shifted R front vs rest [] [] h = tt
+shifted R front vs rest [] (n ∷ ns) h = absurd h
+shifted R front vs rest (k ∷ keys) [] h = absurd h
+shifted R front vs rest (k ∷ keys) (n ∷ ns) h = (
+  record { value = h.0.value; at = at-behind front (vs ++ rest) n h.0.value (at-front vs rest n h.0.value h.0.at); serves = h.0.serves },
+  shifted R front vs rest keys ns h.1,
+)
 
-  pub of_whole : (pairs : List PlacePair) (size : ℕ) (parts : List Part) → AllZip (λ chunk (part : Part). ArePairsJudged paths places chunk part.items) (chunks_of (max size 1) pairs) parts → ArePairsJudged paths places pairs (verdicts_in parts)
+module _ (paths : List Path) (places : List Placed) where
+  abbrev pub AreParts : List (List PlacePair) → List Part → Type 0
+  AreParts = AllZip (λ chunk (part : Part). ArePairsJudged paths places chunk part.verdicts.items part.numbers.items)
+
+  sound-in : (chunks : List (List PlacePair)) (parts : List Part) → AreParts chunks parts → All (IsOnAsked paths) (verdicts_in parts)
+  sound-in [] [] h = All-nil (IsOnAsked paths)
+  sound-in [] (p ∷ parts) h = absurd h
+  sound-in (c ∷ chunks) [] h = absurd h
+  sound-in (c ∷ chunks) (p ∷ parts) h = All-append (IsOnAsked paths) p.verdicts.items (verdicts_in parts) h.0.sound (sound-in chunks parts h.1)
+
+  served-in : (front : List Verdict) (chunks : List (List PlacePair)) (parts : List Part) → AreParts chunks parts → AllZip (IsServed (IsOnPair paths places) (front ++ verdicts_in parts)) (flat_map (λ l. l) chunks) (numbers_in (length front) parts)
+  served-in front [] [] h = tt
+  served-in front [] (p ∷ parts) h = absurd h
+  served-in front (c ∷ chunks) [] h = absurd h
+  served-in front (c ∷ chunks) (p ∷ parts) h =
+      let serves = IsOnPair paths places in
+      let vs = p.verdicts.items in
+      let rest = verdicts_in parts in
+      let pairs = flat_map (λ l. l) chunks in
+      let behind = served-in (front ++ vs) chunks parts h.1 in
+      let moved = subst (λ (l : List Verdict). AllZip (IsServed serves l) pairs (numbers_in (length (front ++ vs)) parts)) (append_assoc front vs rest) behind in
+      AllZip-append (IsServed serves (front ++ (vs ++ rest))) c pairs (map (λ n. length front + n) p.numbers.items) (numbers_in (length front + length vs) parts)
+      (shifted serves front vs rest c p.numbers.items h.0.served)
+      (subst (λ (n : ℕ). AllZip (IsServed serves (front ++ (vs ++ rest))) pairs (numbers_in n parts)) (length-append front vs) moved)
+
+  pub of_whole : (pairs : List PlacePair) (size : ℕ) (parts : List Part) → AreParts (chunks_of (max size 1) pairs) parts → ArePairsJudged paths places pairs (verdicts_in parts) (numbers_in 0 parts)
   of_whole pairs size parts h =
       let some : 0 < max size 1 = omega arith in
-      subst (λ (l : List PlacePair). ArePairsJudged paths places l (verdicts_in parts)) (chunks_of-concat (max size 1) pairs some) (of_chunks (chunks_of (max size 1) pairs) parts h)
+      let chunks = chunks_of (max size 1) pairs in
+      subst (λ (l : List PlacePair). ArePairsJudged paths places l (verdicts_in parts) (numbers_in 0 parts)) (chunks_of-concat (max size 1) pairs some)
+      (record { sound = sound-in chunks parts h; served = served-in [] chunks parts h })
 
   chunks_asked : (fuel : ℕ) (pairs : List PlacePair) (size : ℕ) → All (IsAskedBetween paths places) pairs → All (λ (chunk : List PlacePair). All (IsAskedBetween paths places) chunk) (chunks_from fuel size pairs)
   chunks_asked zero pairs size h = All-nil (λ (chunk : List PlacePair). All (IsAskedBetween paths places) chunk)
@@ -43,11 +76,24 @@ module _ (paths : List Path) (places : List Placed) where
 
 -- ---- the verdicts of all parts, one part more at a time
 
-pub joined-more : (old new whole : List Verdict) (rest left : List Part) (part : Part) → left ≡ part ∷ rest → new ≡ old ++ part.items → old ++ verdicts_in left ≡ whole → new ++ verdicts_in rest ≡ whole
+pub joined-more : (old new whole : List Verdict) (rest left : List Part) (part : Part) → left ≡ part ∷ rest → new ≡ old ++ part.verdicts.items → old ++ verdicts_in left ≡ whole → new ++ verdicts_in rest ≡ whole
 joined-more old new whole rest left part first added h =
-    ap (λ (l : List Verdict). l ++ verdicts_in rest) added ∙ append_assoc old part.items (verdicts_in rest)
+    ap (λ (l : List Verdict). l ++ verdicts_in rest) added ∙ append_assoc old part.verdicts.items (verdicts_in rest)
     ∙ ap (λ (l : List Part). old ++ verdicts_in l) (sym first) ∙ h
 
 pub joined-end : (old whole : List Verdict) (left : List Part) → length left ≡ 0 → old ++ verdicts_in left ≡ whole → old ≡ whole
 joined-end old whole [] none h = sym (append-nil old) ∙ h
 joined-end old whole (part ∷ left) none h = absurd (omega (arith, none))
+
+-- ---- and their numbers
+
+pub numbered-more : (old new whole : List ℕ) (before behind : ℕ) (rest left : List Part) (part : Part) → left ≡ part ∷ rest → new ≡ old ++ map (λ n. before + n) part.numbers.items → behind ≡ before + length part.verdicts.items → old ++ numbers_in before left ≡ whole → new ++ numbers_in behind rest ≡ whole
+numbered-more old new whole before behind rest left part first added is h =
+    ap (λ (l : List ℕ). l ++ numbers_in behind rest) added
+    ∙ append_assoc old (map (λ n. before + n) part.numbers.items) (numbers_in behind rest)
+    ∙ ap (λ (n : ℕ). old ++ (map (λ m. before + m) part.numbers.items ++ numbers_in n rest)) is
+    ∙ ap (λ (l : List Part). old ++ numbers_in before l) (sym first) ∙ h
+
+pub numbered-end : (old whole : List ℕ) (before : ℕ) (left : List Part) → length left ≡ 0 → old ++ numbers_in before left ≡ whole → old ≡ whole
+numbered-end old whole before [] none h = sym (append-nil old) ∙ h
+numbered-end old whole before (part ∷ left) none h = absurd (omega (arith, none))

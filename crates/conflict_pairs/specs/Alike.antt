@@ -88,3 +88,9 @@ abbrev pub IsJudgedAt : List Path → Question → Verdict → Type 0
 IsJudgedAt paths q verdict =
     (mine theirs : Access) → IsAccessOf paths q.x q.a mine → IsAccessOf paths q.y q.b theirs
     → IsJudged (accesses_at paths q.x) (accesses_at paths q.y) mine theirs verdict
+
+-- a verdict says what the facts say of some question of the paths
+pub record IsOnAsked (paths : List Path) (verdict : Verdict) : Type 0 where
+  pub question : Question
+  pub asked : IsAsked paths question
+  pub judged : IsJudgedAt paths question verdict

@@ -1,6 +1,5 @@
 -- Questions by the numbers of their two accesses among all.
 use Rattle.std.specs.Prelude.{◌≡◌, ℕ, ◌+◌, ◌<◌, List, length, map, All, slice_index_or, slice_get, None, Some, false}
-use Rattle.std.specs.List.{AllZip}
 use Rattle.prog_check.specs.declared.path.Kind.TheVariants.{Reads}
 use Rattle.prog_check.specs.declared.path.Path.{Path}
 use Rattle.prog_check.specs.declared.path.Term.TheVariants.{Param}
@@ -10,7 +9,8 @@ use Rattle.prog_paths.specs.Questions.{all_from, question_between}
 use Rattle.conflict_pairs.specs.declared.listing.Questions.{Questions}
 use Rattle.conflict_pairs.specs.declared.pairing.PlacePair.{PlacePair}
 use Rattle.conflict_pairs.specs.declared.verdicts.Verdict.{Verdict}
-use Rattle.conflict_pairs.specs.Alike.{AreListed, IsAsked, IsJudgedAt}
+use Rattle.conflict_pairs.specs.Interning.{AreInterned}
+use Rattle.conflict_pairs.specs.Alike.{AreListed, IsAsked, IsJudgedAt, IsOnAsked}
 
 -- stands for an access where there is none
 abbrev pub no_place : Placed
@@ -61,9 +61,13 @@ pub record IsAskedBetween (paths : List Path) (places : List Placed) (pair : Pla
 abbrev pub IsAskedAt : List Path → PlacePair → Type 0
 IsAskedAt paths = IsAskedBetween paths (all_from 0 paths)
 
--- these verdicts are on the questions of these pairs, one each
-abbrev pub ArePairsJudged : List Path → List Placed → List PlacePair → List Verdict → Type 0
-ArePairsJudged paths places = AllZip (λ pair. IsJudgedAt paths (question_at places pair))
+-- a verdict says what the facts say of the question of a pair
+abbrev pub IsOnPair : List Path → List Placed → PlacePair → Verdict → Type 0
+IsOnPair paths places pair verdict = IsJudgedAt paths (question_at places pair) verdict
+
+-- these verdicts are each on some question of the paths, and for each pair the one of its number is on its question
+abbrev pub ArePairsJudged : List Path → List Placed → List PlacePair → List Verdict → List ℕ → Type 0
+ArePairsJudged paths places = AreInterned (IsOnAsked paths) (IsOnPair paths places)
 
 -- all questions of the paths by the numbers of their accesses, and which of them are judged
 pub record AreQuestionsOf (paths : List Path) (qs : Questions) : Type 0 where

@@ -44,12 +44,12 @@ pub struct Interned<V> {
 }
 
 // How many numbers of values are remembered. It is a prime.
-const SLOTS: usize = 16_381;
+pub const SLOTS: usize = 16_381;
 
 // The golden section of all numbers, which sets near ones far apart.
 const SPREAD: usize = 0x9E37_79B9_7F4A_7C15;
 
-fn slot_of(hash: usize) -> usize
+pub fn slot_of(hash: usize) -> usize
     ensures { result < SLOTS }
 {
     (hash.wrapping_mul(SPREAD) >> 32) % SLOTS

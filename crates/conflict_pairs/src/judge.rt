@@ -12,7 +12,9 @@ ghost use Rattle.conflict_pairs.specs.Search.{CoversAt, ShowEqualAt, IsCoverFoun
 use crate::apart::{contradiction, number_fall};
 use crate::chain::Chain;
 use crate::cover::{cover_chains, least_cover};
+use crate::interning::SLOTS;
 use crate::pairing::{PlacePair, question_of};
+use crate::sharing::{PairVerdicts, place_of};
 use crate::verdicts::Verdict;
 use order_facts::Closed;
 use prog_check::{Access, Kind, Path};
@@ -212,20 +214,26 @@ fn pair_verdict(
     verdict_of(alloc, paths, &question)
 }
 
-/// The verdicts on the questions of some pairs of accesses, in their order.
+/// The verdicts on the questions of some pairs of accesses, and for each pair the number of its
+/// own. There are few different ones, so a verdict is kept only where the slots remember none that
+/// is the same.
 pub fn verdicts_of(
     alloc: Global,
     paths: &[Path],
     places: &[Placed],
     pairs: &[PlacePair],
-) -> Result<Vec<Verdict>, AllocError>
+) -> Result<PairVerdicts, AllocError>
     requires { All (IsAskedBetween paths.now places.now) pairs.now }
-    ensures { IfOk result
-        (λ verdicts. ArePairsJudged paths.now places.now pairs.now verdicts.items) }
+    ensures { IfOk result (λ judged. ArePairsJudged paths.now places.now pairs.now
+        judged.verdicts.items judged.numbers.items) }
 {
-    let mut verdicts = Vec::with_capacity(alloc, pairs.len())?;
+    let mut slots = vec![in alloc; 0; SLOTS]?;
+    let mut verdicts = Vec::new(alloc);
+    let mut numbers = Vec::with_capacity(alloc, pairs.len())?;
     for pair in pairs {
-        verdicts.push(pair_verdict(alloc, paths, places, *pair)?)?;
+        let verdict = pair_verdict(alloc, paths, places, *pair)?;
+        let number = place_of(verdict, &mut slots, &mut verdicts)?;
+        numbers.push_reserved(number);
     }
-    Ok(verdicts)
+    Ok(PairVerdicts { verdicts, numbers })
 }

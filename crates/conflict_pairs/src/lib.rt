@@ -17,6 +17,7 @@ mod limits;
 mod listing;
 mod pairing;
 mod parallel;
+mod sharing;
 mod table;
 mod verdicts;
 

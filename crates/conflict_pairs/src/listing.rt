@@ -1,5 +1,5 @@
 //! All questions of a list of paths.
-ghost use Rattle.std.specs.Prelude.{◌≡◌, ◌↔◌, ◌++◌, ◌+◌, ◌<◌, ◌≤◌, ◌^◌, length, vec_len, vec_capacity, All, IfOk, OnOk, Err};
+ghost use Rattle.std.specs.Prelude.{◌≡◌, ◌↔◌, ◌++◌, ◌+◌, ◌<◌, ◌≤◌, ◌^◌, length, map, slice_index_or, vec_len, vec_capacity, All, IfOk, OnOk, Err};
 ghost use Rattle.conflict_pairs.specs.declared.fault.PairFault as PairFault;
 ghost use Rattle.prog_paths.specs.Questions.{ChangesSingleCells, all_from, asked_by, asked_among, questions_of};
 ghost use Rattle.prog_paths.specs.Limits.{most_questions};
@@ -13,8 +13,8 @@ use crate::interning::{Interned, intern_all};
 use crate::judge::verdicts_of;
 use crate::limits::MAX_PLACES;
 use crate::pairing::{PlacePair, number_among};
+use crate::sharing::PairVerdicts;
 use crate::table::PairTable;
-use crate::verdicts::Verdict;
 use prog_check::Path;
 use prog_paths::{Changers, MAX_QUESTIONS, Placed, all_places, asks, question_count};
 use std::alloc::{AllocError, Global};
@@ -121,21 +121,51 @@ pub fn numbered_questions(alloc: Global, paths: &[Path]) -> Result<Questions, Pa
     })
 }
 
+fn number_at(numbers: &[u32], n: u32) -> u32
+    requires { n < length numbers.now }
+    ensures { result ≡ slice_index_or numbers.now n 0 }
+{
+    numbers[n as usize]
+}
+
+/// For each question the number of its verdict, which is that of the judged one with its number.
+fn verdict_numbers(
+    alloc: Global,
+    numbers: &[u32],
+    of_judged: &[u32],
+) -> Result<Vec<u32>, AllocError>
+    requires { All (λ n. n < length of_judged.now) numbers.now }
+    ensures { IfOk result (λ all.
+        all.items ≡ map (λ n. slice_index_or of_judged.now n 0) numbers.now) }
+{
+    let mut all = Vec::with_capacity(alloc, numbers.len())?;
+    for number in numbers {
+        all.push(number_at(of_judged, *number))?;
+    }
+    Ok(all)
+}
+
 /// The table of questions, by the verdicts on those that are judged.
-pub fn table_of(paths: &[Path], questions: Questions, verdicts: Vec<Verdict>) -> PairTable
+pub fn table_of(
+    alloc: Global,
+    paths: &[Path],
+    questions: Questions,
+    judged: PairVerdicts,
+) -> Result<PairTable, AllocError>
     requires single { All ChangesSingleCells paths.now }
     requires listed { AreQuestionsOf paths.now questions }
     requires judged { ArePairsJudged paths.now questions.places.items questions.judged.items
-        verdicts.items }
-    ensures { StandsFor result paths.now }
+        judged.verdicts.items judged.numbers.items }
+    ensures { IfOk result (λ table. StandsFor table paths.now) }
 {
-    PairTable::of(
+    let numbers = verdict_numbers(alloc, &questions.numbers, &judged.numbers)?;
+    Ok(PairTable::of(
         paths.len(),
         questions.places,
         questions.pairs,
-        questions.numbers,
-        verdicts,
-    )
+        numbers,
+        judged.verdicts,
+    ))
 }
 
 /// All questions of the paths in order, with their verdicts. They are counted before any memory is
@@ -147,6 +177,6 @@ pub fn pairs(alloc: Global, paths: &[Path]) -> Result<PairTable, PairFault>
         ↔ (most_questions < length (questions_of paths.now)) }
 {
     let questions = numbered_questions(alloc, paths)?;
-    let verdicts = verdicts_of(alloc, paths, &questions.places, &questions.judged)?;
-    Ok(table_of(paths, questions, verdicts))
+    let judged = verdicts_of(alloc, paths, &questions.places, &questions.judged)?;
+    Ok(table_of(alloc, paths, questions, judged)?)
 }

@@ -1,18 +1,18 @@
 //! All questions of a list of paths, answered by several threads.
-ghost use Rattle.std.specs.Prelude.{◌≡◌, ◌↔◌, ◌<◌, length, All, IfOk, Err};
+ghost use Rattle.std.specs.Prelude.{◌≡◌, ◌↔◌, ◌+◌, ◌++◌, ◌<◌, length, map, All, IfOk, OnOk, Err};
 ghost use Rattle.conflict_pairs.specs.declared.fault.PairFault as PairFault;
 ghost use Rattle.prog_paths.specs.Questions.{ChangesSingleCells, questions_of};
 ghost use Rattle.prog_paths.specs.Limits.{most_questions};
 ghost use Rattle.conflict_pairs.specs.Pairing.{ArePairsJudged, IsAskedBetween};
-ghost use Rattle.conflict_pairs.specs.Table.{verdicts_in, StandsFor};
+ghost use Rattle.conflict_pairs.specs.Table.{verdicts_in, numbers_in, StandsFor};
 
 use crate::fault::PairFault;
 use crate::judge::verdicts_of;
-use crate::limits::{EQUAL_PARTS, MIN_QUESTIONS_OF_THREADS};
+use crate::limits::{EQUAL_PARTS, MAX_VALUES, MIN_QUESTIONS_OF_THREADS};
 use crate::listing::{numbered_questions, table_of};
 use crate::pairing::PlacePair;
+use crate::sharing::PairVerdicts;
 use crate::table::PairTable;
-use crate::verdicts::Verdict;
 use prog_check::Path;
 use prog_paths::Placed;
 use rayon::prelude::*;
@@ -30,44 +30,74 @@ fn part_len(questions: usize) -> usize
     }
 }
 
-/// The verdicts on the questions of some pairs of accesses, in their order, in parts that threads
-/// of their own make where there are many.
+/// The verdicts on the questions of some pairs of accesses, and for each pair the number of its
+/// own, in parts that threads of their own make where there are many.
 fn parts_of(
     rt: &(impl Threads + Sync),
     alloc: Global,
     paths: &[Path],
     places: &[Placed],
     pairs: &[PlacePair],
-) -> Result<Vec<Vec<Verdict>>, AllocError>
+) -> Result<Vec<PairVerdicts>, AllocError>
     requires { All (IsAskedBetween paths.now places.now) pairs.now }
-    ensures { IfOk result
-        (λ parts. ArePairsJudged paths.now places.now pairs.now (verdicts_in parts.items)) }
+    ensures { IfOk result (λ parts. ArePairsJudged paths.now places.now pairs.now
+        (verdicts_in parts.items) (numbers_in 0 parts.items)) }
 {
     pairs
         .par_chunks(part_len(pairs.len()))
         .map(
-            |chunk: &[PlacePair]| -> Result<Vec<Verdict>, AllocError>
+            |chunk: &[PlacePair]| -> Result<PairVerdicts, AllocError>
                 requires { All (IsAskedBetween paths.now places.now) chunk.now }
-                ensures { IfOk result (λ part.
-                    ArePairsJudged paths.entry.now places.entry.now chunk.now part.items) }
+                ensures { IfOk result (λ part. ArePairsJudged paths.entry.now places.entry.now
+                    chunk.now part.verdicts.items part.numbers.items) }
             { verdicts_of(alloc, paths, places, chunk) },
         )
-        .collect::<Result<Vec<Vec<Verdict>>, AllocError>>(rt, alloc)?
+        .collect::<Result<Vec<PairVerdicts>, AllocError>>(rt, alloc)?
 }
 
-/// The verdicts of all parts, one part after the other, in a list with room for so many.
+/// The number that a verdict of a part has among those of all, of which so many stand before the
+/// part. One that 32 bits can't say is answered as want of memory.
+fn number_behind(before: usize, number: u32) -> Result<u32, AllocError>
+    ensures { IfOk result (λ behind. behind ≡ before + number) }
+{
+    let Some(behind) = before.checked_add(number as usize) else {
+        return Err(AllocError);
+    };
+    if behind >= MAX_VALUES {
+        return Err(AllocError);
+    }
+    Ok(behind as u32)
+}
+
+/// Adds the numbers of a part, of whose verdicts so many stand before.
+fn push_numbers(numbers: &mut Vec<u32>, before: usize, of_part: &[u32]) -> Result<(), AllocError>
+    ensures { OnOk result (numbers.new.items
+        ≡ numbers.old.items ++ map (λ n. before + n) of_part.now) }
+{
+    for number in of_part {
+        let behind = number_behind(before, *number)?;
+        numbers.push(behind)?;
+    }
+    Ok(())
+}
+
+/// The verdicts of all parts, one part after the other, and for each of so many pairs the number of
+/// its own.
 fn all_verdicts(
     alloc: Global,
     count: usize,
-    parts: Vec<Vec<Verdict>>,
-) -> Result<Vec<Verdict>, AllocError>
-    ensures { IfOk result (λ verdicts. verdicts.items ≡ verdicts_in parts.items) }
+    parts: Vec<PairVerdicts>,
+) -> Result<PairVerdicts, AllocError>
+    ensures verdicts { IfOk result (λ all. all.verdicts.items ≡ verdicts_in parts.items) }
+    ensures numbers { IfOk result (λ all. all.numbers.items ≡ numbers_in 0 parts.items) }
 {
-    let mut verdicts = Vec::with_capacity(alloc, count)?;
+    let mut verdicts = Vec::new(alloc);
+    let mut numbers = Vec::with_capacity(alloc, count)?;
     for mut part in parts {
-        verdicts.append(&mut part)?;
+        push_numbers(&mut numbers, verdicts.len(), &part.numbers)?;
+        verdicts.append(&mut part.verdicts)?;
     }
-    Ok(verdicts)
+    Ok(PairVerdicts { verdicts, numbers })
 }
 
 /// All questions of the paths in order, with their verdicts, as `pairs` gives them, by several
@@ -84,6 +114,6 @@ pub fn pairs_par(
 {
     let questions = numbered_questions(alloc, paths)?;
     let parts = parts_of(rt, alloc, paths, &questions.places, &questions.judged)?;
-    let verdicts = all_verdicts(alloc, questions.judged.len(), parts)?;
-    Ok(table_of(paths, questions, verdicts))
+    let judged = all_verdicts(alloc, questions.judged.len(), parts)?;
+    Ok(table_of(alloc, paths, questions, judged)?)
 }

@@ -3,8 +3,41 @@ ghost use Rattle.std.specs.Prelude.{◌≡◌};
 ghost use Rattle.conflict_pairs.specs.Verdicts.{can_meet, is_exposed};
 
 use crate::chain::Chain;
-use order_facts::Sample;
+use order_facts::{Node, Sample};
 use prog_tree::Sequence;
+
+// A number for what was seen and one thing more.
+fn mix(seen: usize, number: usize) -> usize {
+    seen.wrapping_mul(2_531).wrapping_add(number)
+}
+
+fn node_hash(node: Node) -> usize {
+    match node {
+        Node::Mine(index) => mix(1, index),
+        Node::MineUnknown(index) => mix(2, index),
+        Node::Theirs(index) => mix(3, index),
+        Node::TheirsUnknown(index) => mix(4, index),
+        Node::Number(number) => number.unsigned_abs() as usize,
+    }
+}
+
+// Of the first two nodes.
+fn chain_hash(chain: &Chain) -> usize {
+    match chain.as_slice() {
+        [] => 0,
+        [only] => node_hash(*only),
+        [first, second, ..] => mix(node_hash(*first), node_hash(*second)),
+    }
+}
+
+// Of the first and the last chain.
+fn chains_hash(chains: &[Chain]) -> usize {
+    match chains {
+        [] => 0,
+        [only] => chain_hash(only),
+        [first, .., last] => mix(chain_hash(first), chain_hash(last)),
+    }
+}
 
 /// What the facts of a question say.
 #[derive(Drop)]
@@ -36,5 +69,18 @@ impl Verdict {
         ensures { result ≡ is_exposed self.now }
     {
         matches!(self, Verdict::Exposed(_))
+    }
+
+    /// The same number for verdicts that show the same, mostly another for others.
+    pub fn hash(&self) -> usize {
+        match self {
+            Verdict::Apart(chain) => chain_hash(chain),
+            Verdict::Covered {
+                mine,
+                theirs,
+                chains,
+            } => mix(mix(*mine, *theirs), chains_hash(chains.as_slice())),
+            Verdict::Exposed(_) => 0,
+        }
     }
 }

@@ -113,52 +113,6 @@ fn is_given(reason: &Reason, verdict: &Verdict) -> bool
     }
 }
 
-// A number for what was seen and one thing more.
-fn mix(seen: usize, number: usize) -> usize {
-    seen.wrapping_mul(2_531).wrapping_add(number)
-}
-
-fn node_hash(node: Node) -> usize {
-    match node {
-        Node::Mine(index) => mix(1, index),
-        Node::MineUnknown(index) => mix(2, index),
-        Node::Theirs(index) => mix(3, index),
-        Node::TheirsUnknown(index) => mix(4, index),
-        Node::Number(number) => number.unsigned_abs() as usize,
-    }
-}
-
-// Of the first two nodes.
-fn chain_hash(chain: &conflict_pairs::Chain) -> usize {
-    match chain.as_slice() {
-        [] => 0,
-        [only] => node_hash(*only),
-        [first, second, ..] => mix(node_hash(*first), node_hash(*second)),
-    }
-}
-
-// Of the first and the last chain.
-fn chains_hash(chains: &[conflict_pairs::Chain]) -> usize {
-    match chains {
-        [] => 0,
-        [only] => chain_hash(only),
-        [first, .., last] => mix(chain_hash(first), chain_hash(last)),
-    }
-}
-
-// Of the reason that a verdict gives.
-fn reason_hash(verdict: &Verdict) -> usize {
-    match verdict {
-        Verdict::Apart(chain) => chain_hash(chain),
-        Verdict::Covered {
-            mine,
-            theirs,
-            chains,
-        } => mix(mix(*mine, *theirs), chains_hash(chains.as_slice())),
-        Verdict::Exposed(_) => 0,
-    }
-}
-
 /// Makes the reasons that verdicts give.
 #[derive(Drop)]
 struct Reasoning;
@@ -175,7 +129,7 @@ impl Interner for Reasoning {
     ghost serves = { λ reasoning verdict reason. Gives verdict reason };
 
     fn hash(&self, verdict: &Verdict) -> usize {
-        reason_hash(verdict)
+        verdict.hash()
     }
 
     fn is_served(&self, verdict: &Verdict, reason: &Reason) -> bool {

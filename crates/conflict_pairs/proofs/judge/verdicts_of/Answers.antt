@@ -1,13 +1,38 @@
-use Rattle.std.proofs.Common.{arith}
+use Rattle.std.proofs.Common.{List, subst, take_all, arith}
+use Rattle.std.specs.List.{AllZip}
 use Rattle.conflict_pairs.specs.declared.pairing.PlacePair.{PlacePair}
-use Rattle.conflict_pairs.specs.Alike.{IsJudgedAt}
-use Rattle.conflict_pairs.specs.Pairing.{question_at}
-use Rattle.conflict_pairs.proofs.Zipped.{AllZip-more}
+use Rattle.conflict_pairs.specs.Interning.{IsServed}
+use Rattle.conflict_pairs.specs.Pairing.{IsOnPair}
+use Rattle.conflict_pairs.proofs.Sharing.{sound-more, served-more}
 use Rattle.conflict_pairs.proofs.judge.verdicts_of.Goals as goal
 
 pub pair_verdict-requires : goal.pair_verdict-requires
 pair_verdict-requires c = c.requires c.loop-pair.pair-index _ (omega arith)
 
+pub push_reserved-requires : goal.push_reserved-requires
+push_reserved-requires c = omega (arith, c.loop-pair-test.true, c.loop-pair.invariant.one_each, c.loop-pair.invariant.room)
+
 pub loop-pair-preserved : goal.loop-pair-preserved
 loop-pair-preserved c =
-    AllZip-more (λ (pair : PlacePair). IsJudgedAt c.args.paths.now (question_at c.args.places.now pair)) c.args.pairs.now c.loop-pair.verdicts.items c.push.new.self.items c.loop-pair.pair-index _ _ (omega arith) c.in_ok-push.ensures.items c.in_ok-pair_verdict.ensures c.loop-pair.invariant
+    let paths = c.args.paths.now in
+    let places = c.args.places.now in
+    let pairs = c.args.pairs.now in
+    let k = c.loop-pair.pair-index in
+    let old = c.loop-pair.verdicts.items in
+    let new = c.place_of.new.verdicts.items in
+    record {
+      slots = c.in_ok-number.ensures.slots;
+      sound = sound-more paths places pairs old new k _ c.in_ok-verdict.verdict (c.requires k _ (omega arith)) c.in_ok-verdict.ensures c.in_ok-number.ensures.verdicts c.loop-pair.invariant.sound;
+      served =
+          served-more paths places pairs old new c.loop-pair.numbers.items c.push_reserved.new.self.items k _ c.in_ok-verdict.verdict c.in_ok-number.number (omega arith) c.in_ok-verdict.ensures c.in_ok-number.ensures.verdicts c.in_ok-number.ensures.place c.push_reserved.ensures.items c.loop-pair.invariant.served;
+      one_each = omega (arith, c.push_reserved.ensures.len, c.loop-pair.invariant.one_each);
+      room = omega (arith, c.push_reserved.ensures.capacity, c.loop-pair.invariant.room);
+    }
+
+pub returns : goal.returns
+returns c = record {
+  sound = c.loop-pair.invariant.sound;
+  served =
+      subst (λ (l : List PlacePair). AllZip (IsServed (IsOnPair c.args.paths.now c.args.places.now) c.loop-pair.verdicts.items) l c.loop-pair.numbers.items)
+      (take_all c.loop-pair.pair-index c.args.pairs.now (omega arith)) c.loop-pair.invariant.served;
+}

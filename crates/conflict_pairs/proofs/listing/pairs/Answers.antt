@@ -20,9 +20,10 @@ pub table_of-requires-clause-judged : goal.table_of-requires-clause-judged
 table_of-requires-clause-judged c =
     let paths = c.args.paths.now in
     let questions = c.in_ok-questions.questions in
-    let verdicts = c.in_ok-verdicts.verdicts.items in
-    subst (λ (l : List Placed). ArePairsJudged paths l questions.judged.items verdicts) c.deref.ensures.value
-    (subst (λ (l : List PlacePair). ArePairsJudged paths c.deref.result.now l verdicts) c.deref-2.ensures.value c.in_ok-verdicts.ensures)
+    let verdicts = c.in_ok-judged.judged.verdicts.items in
+    let numbers = c.in_ok-judged.judged.numbers.items in
+    subst (λ (l : List Placed). ArePairsJudged paths l questions.judged.items verdicts numbers) c.deref.ensures.value
+    (subst (λ (l : List PlacePair). ArePairsJudged paths c.deref.result.now l verdicts numbers) c.deref-2.ensures.value c.in_ok-judged.ensures)
 
 pub returns-in_err-questions-clause-too_large : goal.returns-in_err-questions-clause-too_large
 returns-in_err-questions-clause-too_large c = passed_iff _ _ _ _ c.from_residual.ensures.1 c.in_err-questions.ensures.too_large

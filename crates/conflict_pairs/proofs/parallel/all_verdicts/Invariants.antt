@@ -1,7 +1,10 @@
-use Rattle.std.proofs.Common.{◌≡◌, ◌++◌}
-use Rattle.conflict_pairs.specs.Table.{verdicts_in}
+use Rattle.std.proofs.Common.{◌≡◌, ◌++◌, length}
+use Rattle.conflict_pairs.specs.Table.{verdicts_in, numbers_in}
 use Rattle.conflict_pairs.proofs.parallel.all_verdicts.Given as goal
 
--- the verdicts so far, with those of the parts that are left
+-- the verdicts and the numbers so far, with those of the parts that are left
 abbrev pub invariant-loop-part : goal.invariant-loop-part
-invariant-loop-part l = l.verdicts.items ++ verdicts_in l.part-iterator.rest.items ≡ verdicts_in l.fn.parts.items
+invariant-loop-part l = record {
+  verdicts : l.verdicts.items ++ verdicts_in l.part-iterator.rest.items ≡ verdicts_in l.fn.parts.items;
+  numbers : l.numbers.items ++ numbers_in (length l.verdicts.items) l.part-iterator.rest.items ≡ numbers_in 0 l.fn.parts.items;
+}

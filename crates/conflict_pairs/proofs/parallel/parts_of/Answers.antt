@@ -44,6 +44,6 @@ returns g c =
     let h = c.in_ok-collect.ensures in
     let chain = rw (c.map.ensures.base, c.map.ensures.f, c.par_chunks.ensures.slice, c.par_chunks.ensures.size) at h.1 in
     IfOk-then c.in_ok-collect.field-0 _ _
-    (gathered _ (λ (chunk : List PlacePair) (part : Part). ArePairsJudged paths places chunk part.items) (λ v. v.items) _ (chunks_of (max size 1) pairs) h.0
-    (slice-AllZip chain.0 (chunks_of (max size 1) pairs) chain.1 (λ chunk x. IfOk x (λ (part : Part). ArePairsJudged paths places chunk part.items)) h.0 chain.2) h.2)
+    (gathered _ (λ (chunk : List PlacePair) (part : Part). ArePairsJudged paths places chunk part.verdicts.items part.numbers.items) (λ v. v.items) _ (chunks_of (max size 1) pairs) h.0
+    (slice-AllZip chain.0 (chunks_of (max size 1) pairs) chain.1 (λ chunk x. IfOk x (λ (part : Part). ArePairsJudged paths places chunk part.verdicts.items part.numbers.items)) h.0 chain.2) h.2)
     (λ v z. of_whole paths places pairs size v.items z)

@@ -1,0 +1,71 @@
+-- Verdicts that several pairs share, one pair more at a time.
+use Rattle.std.proofs.Common.{◌≡◌, ℕ, ◌<◌, ◌+◌, ◌⊎◌, inl, inr, List, [], ◌∷◌, ◌++◌, length, get_or, map, take, append_assoc, sym, subst, ap, ◌∙◌, arith, zero, suc}
+use Rattle.std.specs.Prelude.{All, Some, slice_get}
+use Rattle.std.specs.List.{AllZip}
+use Rattle.std.proofs.lemmas.List.{map_more}
+use Rattle.std.proofs.lemmas.List.Elements.{All-push}
+use Rattle.std.proofs.lemmas.Option.{slice_get_within}
+use Rattle.prog_check.specs.declared.path.Path.{Path}
+use Rattle.prog_paths.specs.declared.accesses.places.Placed.{Placed}
+use Rattle.conflict_pairs.specs.declared.pairing.PlacePair.{PlacePair}
+use Rattle.conflict_pairs.specs.declared.verdicts.Verdict.{Verdict}
+use Rattle.conflict_pairs.specs.Verdicts.{IsSame}
+use Rattle.conflict_pairs.specs.Alike.{IsJudgedAt, IsOnAsked}
+use Rattle.conflict_pairs.specs.Interning.{IsServed}
+use Rattle.conflict_pairs.specs.Pairing.{IsAskedBetween, IsOnPair, ArePairsJudged, question_at, questions_at}
+use Rattle.conflict_pairs.proofs.Serving.{served-kept}
+use Rattle.conflict_pairs.proofs.Zipped.{AllZip-map, AllZip-more, AllZip-then}
+
+-- ---- a list, or the list with one more item behind it
+
+-- what is there stays there when more is put behind
+pub at-front : {X : Type 0} (xs ys : List X) (k : ℕ) (y : X) → slice_get xs k ≡ Some y → slice_get (xs ++ ys) k ≡ Some y
+at-front [] ys k y at = let lt = slice_get_within [] k y at in let no : ⊥ = omega (arith, lt) in absurd no
+at-front (x ∷ xs) ys zero y at = at
+at-front (x ∷ xs) ys (suc k) y at = at-front xs ys k y at
+
+-- what stands behind a list stands so many places on
+pub at-behind : {X : Type 0} (front ys : List X) (n : ℕ) (y : X) → slice_get ys n ≡ Some y → slice_get (front ++ ys) (length front + n) ≡ Some y
+at-behind [] ys n y at = let none : length [] + n ≡ n = omega arith in ap (slice_get ys) none ∙ at
+at-behind (x ∷ front) ys n y at =
+    let more : length (x ∷ front) + n ≡ suc (length front + n) = omega arith in
+    ap (slice_get (x ∷ (front ++ ys))) more ∙ at-behind front ys n y at
+
+kept-grown : (old new : List Verdict) (v : Verdict) → (new ≡ old) ⊎ (new ≡ old ++ v ∷ []) → (k : ℕ) (w : Verdict) → slice_get old k ≡ Some w → slice_get new k ≡ Some w
+kept-grown old new v (inl e) k w at = ap (λ (l : List Verdict). slice_get l k) e ∙ at
+kept-grown old new v (inr e) k w at = ap (λ (l : List Verdict). slice_get l k) e ∙ at-front old (v ∷ []) k w at
+
+all-grown : (P : Verdict → Type 0) (old new : List Verdict) (v : Verdict) → (new ≡ old) ⊎ (new ≡ old ++ v ∷ []) → P v → All P old → All P new
+all-grown P old new v (inl e) its h = subst (λ (l : List Verdict). All P l) (sym e) h
+all-grown P old new v (inr e) its h = subst (λ (l : List Verdict). All P l) (sym e) (All-push P old v h its)
+
+-- ---- the verdict of one pair more
+
+module _ (paths : List Path) (places : List Placed) where
+  pub sound-more : (pairs : List PlacePair) (old new : List Verdict) (k : ℕ) (d : PlacePair) (v : Verdict) → IsAskedBetween paths places (get_or pairs k d) → IsJudgedAt paths (question_at places (get_or pairs k d)) v → (new ≡ old) ⊎ (new ≡ old ++ v ∷ []) → All (IsOnAsked paths) old → All (IsOnAsked paths) new
+  sound-more pairs old new k d v asked judged grown h =
+      all-grown (IsOnAsked paths) old new v grown (record { question = question_at places (get_or pairs k d); asked = asked.asked; judged = judged }) h
+
+  pub served-more : (pairs : List PlacePair) (old new : List Verdict) (ns ms : List ℕ) (k : ℕ) (d : PlacePair) (v : Verdict) (n : ℕ) → k < length pairs → IsJudgedAt paths (question_at places (get_or pairs k d)) v → (new ≡ old) ⊎ (new ≡ old ++ v ∷ []) → IsServed IsSame new v n → ms ≡ ns ++ n ∷ [] → AllZip (IsServed (IsOnPair paths places) old) (take k pairs) ns → AllZip (IsServed (IsOnPair paths places) new) (take (k + 1) pairs) ms
+  served-more pairs old new ns ms k d v n lt judged grown its added h =
+      let pair = get_or pairs k d in
+      let here : IsServed (IsOnPair paths places) new pair n =
+      record { value = its.value; at = its.at; serves = subst (λ (w : Verdict). IsJudgedAt paths (question_at places pair) w) (sym its.serves) judged } in
+      AllZip-more (IsServed (IsOnPair paths places) new) pairs ns ms k d n lt added here
+      (AllZip-then (IsServed (IsOnPair paths places) old) (IsServed (IsOnPair paths places) new) (served-kept (IsOnPair paths places) old new (kept-grown old new v grown)) (take k pairs) ns h)
+
+  -- the verdicts on pairs are those on their questions
+  pub on-questions : (pairs : List PlacePair) (vs : List Verdict) (ns : List ℕ) → AllZip (IsServed (IsOnPair paths places) vs) pairs ns → AllZip (IsServed (IsJudgedAt paths) vs) (questions_at places pairs) ns
+  on-questions pairs vs ns h =
+      AllZip-map (question_at places) (IsServed (IsJudgedAt paths) vs) pairs ns
+      (AllZip-then (IsServed (IsOnPair paths places) vs) (λ (pair : PlacePair). IsServed (IsJudgedAt paths) vs (question_at places pair))
+      (λ pair n its. record { value = its.value; at = its.at; serves = its.serves }) pairs ns h)
+
+-- ---- a list that each item of another one adds to
+
+pub mapped-more : (f : ℕ → ℕ) (base old new xs : List ℕ) (k d m : ℕ) → k < length xs → m ≡ f (get_or xs k d) → new ≡ old ++ m ∷ [] → old ≡ base ++ map f (take k xs) → new ≡ base ++ map f (take (k + 1) xs)
+mapped-more f base old new xs k d m lt is added h =
+    added
+    ∙ (λ i. h i ++ is i ∷ [])
+    ∙ append_assoc base (map f (take k xs)) (f (get_or xs k d) ∷ [])
+    ∙ ap (λ (l : List ℕ). base ++ l) (sym (map_more f xs k d lt))
