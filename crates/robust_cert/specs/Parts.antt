@@ -10,6 +10,16 @@ use Rattle.robust_cert.specs.declared.entries.Reason.TheVariants.{Apart, Cover}
 use Rattle.robust_cert.specs.Json.{list_data, chain_data, entry_data, ReasonFits}
 use Rattle.robust_cert.specs.Sharing.{entry_with}
 
+-- ---- room
+
+-- the room of a head
+abbrev pub head_room : ℕ
+head_room = 32
+
+-- the room of an entry before its tail, with the comma behind the entry before
+abbrev pub front_room : ℕ
+front_room = 64
+
 -- ---- the head: the kind and the first access
 
 abbrev pub kind_text : Reason → List ℕ
@@ -31,8 +41,8 @@ abbrev pub AreHeadsOf : EntryQuestion → String Global → String Global → Ty
 AreHeadsOf q apart cover =
     (string_bytes apart ≡ codes ",[\"apart\"," ++ first_text q)
     × (string_bytes cover ≡ codes ",[\"cover\"," ++ first_text q)
-    × (32 ≤ string_capacity apart)
-    × (32 ≤ string_capacity cover)
+    × (head_room ≤ string_capacity apart)
+    × (head_room ≤ string_capacity cover)
 
 -- ---- the middle: the second access
 
@@ -58,9 +68,9 @@ pub record AreTailsOf (reasons : List Reason) (tails : List (String Global)) : T
   pub texts : map (λ t. string_bytes t) tails ≡ map tail_text reasons
   pub fit : All ReasonFits reasons
 
--- the text of an entry with this reason takes no more bytes, with the comma behind the entry before
+-- the text of an entry with this reason takes no more room
 abbrev pub HasRoomFor : ℕ → Reason → Type 0
-HasRoomFor room reason = length (tail_text reason) + 64 ≤ room
+HasRoomFor room reason = length (tail_text reason) + front_room ≤ room
 
 -- ---- the text of an entry behind another one
 

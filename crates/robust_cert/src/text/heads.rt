@@ -11,16 +11,18 @@ use crate::text::room::{put_before_comma, put_str};
 use std::alloc::{AllocError, Global};
 use std::marker::Model;
 
-// So many bytes a head has at most: its kind, with the comma behind the entry before, and two
-// numbers.
+// So many bytes a kind takes at most, with the comma behind the entry before.
+const KIND_BYTES: usize = 10;
+
+// So many bytes a head has at most: its kind and two numbers, each before a comma.
 const HEAD_BYTES: usize = 32;
 
 // Makes a text the head of a kind.
 fn write_head(head: &mut String, kind: &str, question: EntryQuestion)
-    requires short { length kind.now ≤ 10 }
-    requires room { 32 ≤ string_capacity head.old }
+    requires short { length kind.now ≤ KIND_BYTES }
+    requires room { HEAD_BYTES ≤ string_capacity head.old }
     ensures text { string_bytes head.new ≡ kind.now ++ first_text question }
-    ensures room { 32 ≤ string_capacity head.new }
+    ensures room { HEAD_BYTES ≤ string_capacity head.new }
 {
     head.clear();
     put_str(head, kind);

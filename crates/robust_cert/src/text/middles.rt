@@ -16,14 +16,14 @@ const MIDDLES_REMEMBERED: usize = 8_191;
 // For fewer entries no slots are made, since that would take longer than they save.
 const MIN_ENTRIES_WITH_SLOTS: usize = 1_024;
 
-// So many bytes a middle has at most: two numbers and the comma between them.
-const MIDDLE_BYTES: usize = 21;
+/// So many bytes a middle has at most: two numbers and the comma between them.
+pub(crate) const MIDDLE_BYTES: usize = 21;
 
 // Adds the numbers of the second access.
 fn put_second_access(text: &mut String, question: EntryQuestion)
-    requires { string_len text.old + 21 ≤ string_capacity text.old }
+    requires { string_len text.old + MIDDLE_BYTES ≤ string_capacity text.old }
     ensures text { string_bytes text.new ≡ string_bytes text.old ++ second_text question }
-    ensures len { string_len text.new ≤ string_len text.old + 21 }
+    ensures len { string_len text.new ≤ string_len text.old + MIDDLE_BYTES }
     ensures capacity { string_capacity text.old ≤ string_capacity text.new }
 {
     put_before_comma(text, question.y);
@@ -115,9 +115,9 @@ impl Middles {
 
     /// Adds the numbers of the second access, which are remembered from then on.
     pub(crate) fn put_access(&mut self, text: &mut String, question: EntryQuestion)
-        requires { string_len text.old + 21 ≤ string_capacity text.old }
+        requires { string_len text.old + MIDDLE_BYTES ≤ string_capacity text.old }
         ensures text { string_bytes text.new ≡ string_bytes text.old ++ second_text question }
-        ensures len { string_len text.new ≤ string_len text.old + 21 }
+        ensures len { string_len text.new ≤ string_len text.old + MIDDLE_BYTES }
         ensures capacity { string_capacity text.old ≤ string_capacity text.new }
     {
         if let Some(known) = self.find(question) {

@@ -59,7 +59,8 @@ fn longest(tails: &[String]) -> usize
 
 // So much room the text of an entry with one of these tails takes at most, behind another one.
 fn room_for(tails: &[String]) -> Result<usize, AllocError>
-    ensures { IfOk result (λ room. All (λ t. length (string_bytes t) + 64 ≤ room) tails.now) }
+    ensures { IfOk result (λ room. All (λ t. length (string_bytes t) + FRONT_BYTES ≤ room)
+        tails.now) }
 {
     let most = longest(tails);
     let Some(room) = most.checked_add(FRONT_BYTES) else {
@@ -81,7 +82,8 @@ fn put_next(
     requires tails { AreTailsOf reasons.now tails.now }
     requires within { HasReason reasons.now told }
     requires room { string_len text.old
-        + (length (tail_text (reason_at reasons.now told.reason)) + 64) ≤ string_capacity text.old }
+        + (length (tail_text (reason_at reasons.now told.reason)) + FRONT_BYTES)
+        ≤ string_capacity text.old }
     ensures text { string_bytes text.new ≡ string_bytes text.old
         ++ next_entry_text told.question (reason_at reasons.now told.reason) }
     ensures capacity { string_capacity text.old ≤ string_capacity text.new }

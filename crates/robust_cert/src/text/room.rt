@@ -4,6 +4,9 @@ ghost use Rattle.std.specs.Prelude.{◌≡◌, ◌+◌, ◌≤◌, ◌++◌, IsT
 
 use itoa::Buffer;
 
+/// The most digits of a number of 32 bits.
+pub(crate) const NUMBER_BYTES: usize = 10;
+
 /// Whether a text has room for so many bytes more.
 pub(crate) fn has_room(text: &String, bytes: usize) -> bool
     ensures { IsTrue result → string_len text.now + bytes ≤ string_capacity text.now }
@@ -29,9 +32,9 @@ pub(crate) fn put_str(text: &mut String, piece: &str)
 
 /// Adds the digits of a number.
 pub(crate) fn put_number(text: &mut String, number: u32)
-    requires { string_len text.old + 10 ≤ string_capacity text.old }
+    requires { string_len text.old + NUMBER_BYTES ≤ string_capacity text.old }
     ensures text { string_bytes text.new ≡ string_bytes text.old ++ decimal number }
-    ensures len { string_len text.new ≤ string_len text.old + 10 }
+    ensures len { string_len text.new ≤ string_len text.old + NUMBER_BYTES }
     ensures capacity { string_capacity text.old ≤ string_capacity text.new }
 {
     let mut digits = Buffer::new();
@@ -40,10 +43,10 @@ pub(crate) fn put_number(text: &mut String, number: u32)
 
 /// Adds the digits of a number, and a comma behind them.
 pub(crate) fn put_before_comma(text: &mut String, number: u32)
-    requires { string_len text.old + 11 ≤ string_capacity text.old }
+    requires { string_len text.old + (NUMBER_BYTES + 1) ≤ string_capacity text.old }
     ensures text { string_bytes text.new
         ≡ string_bytes text.old ++ (decimal number ++ codes ",") }
-    ensures len { string_len text.new ≤ string_len text.old + 11 }
+    ensures len { string_len text.new ≤ string_len text.old + (NUMBER_BYTES + 1) }
     ensures capacity { string_capacity text.old ≤ string_capacity text.new }
 {
     put_number(text, number);
