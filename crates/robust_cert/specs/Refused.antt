@@ -1,13 +1,14 @@
 -- The first fault of a certificate that is not accepted.
-use Rattle.std.specs.Prelude.{◌≡◌, ℕ, ◌<◌, ◌≤◌, ◌+◌, List, [], ◌∷◌, length, map, All, take, Some, slice_get}
+use Rattle.std.specs.Prelude.{◌≡◌, ℕ, ◌<◌, ◌≤◌, ◌+◌, List, length, map, All, take, Some, slice_get}
 use Rattle.prog_check.specs.declared.path.Path.{Path}
 use Rattle.prog_paths.specs.Questions.{IsQuestion, questions_of}
 use Rattle.prog_paths.specs.Limits.{most_questions}
-use Rattle.prog_paths.specs.Listing.{IsBefore, IsAtMost, RiseBy}
+use Rattle.prog_paths.specs.Listing.{IsBefore, RiseBy}
 use Rattle.robust_cert.specs.declared.certificate.Certificate.{Certificate}
 use Rattle.robust_cert.specs.declared.fault.CertFault.{CertFault}
 use Rattle.robust_cert.specs.declared.fault.CertFault.TheVariants.{TooLarge, PathCount, NoSuchEntry, EntryOrder, BadChain, BadCover, LevelFalls, Dangerous, Memory}
 use Rattle.robust_cert.specs.Accepted.{question_of, body_size, IsFitting, ChainsHold, Holds, IsLeft, IsLeftVulnerable, level_of}
+use Rattle.robust_cert.specs.Levels.{IsLevelFault}
 use Rattle.robust_cert.specs.Sharing.{Entry}
 
 -- ---- the whole, in the order in which it is looked at
@@ -55,18 +56,11 @@ abbrev pub HasBadChain : List Path → List Entry → ℕ → Entry → Type 0
 HasBadChain nodes entries k e =
     IsQuestion nodes (question_of e) × IsBehindLast entries k e × IsFitting nodes e × ¬ ChainsHold nodes e
 
--- ---- the edges that are left
+-- ---- what is wrong with the levels
 
--- the level falls along an edge that is left
-pub record FallsAt (nodes : List Path) (c : Certificate) (x y : ℕ) : Type 0 where
-  pub edge : IsLeft nodes c.entries x y
-  pub falls : level_of c y < level_of c x
-
--- the level doesn't rise over two vulnerable edges
-pub record StaysAt (nodes : List Path) (c : Certificate) (x y z : ℕ) : Type 0 where
-  pub first : IsLeftVulnerable nodes c.entries x y
-  pub second : IsLeftVulnerable nodes c.entries y z
-  pub stays : level_of c z ≤ level_of c x
+-- over the edges that are left
+abbrev pub HasLevelFault : List Path → Certificate → CertFault → Type 0
+HasLevelFault nodes c = IsLevelFault (IsLeft nodes c.entries) (IsLeftVulnerable nodes c.entries) (level_of c)
 
 -- ---- the fault
 
@@ -81,11 +75,7 @@ IsFirstFault nodes c (EntryOrder k) = (e : Entry) × IsAtFault nodes c k e × Is
 IsFirstFault nodes c (BadCover k) = (e : Entry) × IsAtFault nodes c k e × HasBadCover nodes c.entries k e
 IsFirstFault nodes c (BadChain k) = (e : Entry) × IsAtFault nodes c k e × HasBadChain nodes c.entries k e
 IsFirstFault nodes c (LevelFalls x y) =
-    StandTo nodes c (length c.entries) × FallsAt nodes c x y
-    × ((u v : ℕ) → FallsAt nodes c u v → IsAtMost (x ∷ y ∷ []) (u ∷ v ∷ []))
+    StandTo nodes c (length c.entries) × HasLevelFault nodes c (LevelFalls x y)
 IsFirstFault nodes c (Dangerous x y z) =
-    StandTo nodes c (length c.entries)
-    × ((u v : ℕ) → FallsAt nodes c u v → ⊥)
-    × StaysAt nodes c x y z
-    × ((u v w : ℕ) → StaysAt nodes c u v w → IsAtMost (x ∷ y ∷ z ∷ []) (u ∷ v ∷ w ∷ []))
+    StandTo nodes c (length c.entries) × HasLevelFault nodes c (Dangerous x y z)
 IsFirstFault nodes c Memory = Unit {0}

@@ -1,7 +1,7 @@
 //! Whether the levels rise over the edges that are left.
 ghost use Rattle.std.specs.Prelude.{◌≡◌, ℕ, ◌<◌, ◌≤◌, length, IfSome, IfNone, OnOk, IfErr};
 ghost use Rattle.order_facts.specs.Square.{Joins};
-ghost use Rattle.robust_cert.specs.Levels.{FallsAlong, FallsFirst, IsLeastFall, Stays, StaysFirst, IsLowestBehind, StaysFirstBy, IsLeastFirstEdge, IsLeastStay, RiseOver, IsLevelFault};
+ghost use Rattle.robust_cert.specs.Levels.{level_in, FallsIn, FallsFirst, IsLeastFall, StaysIn, StaysFirst, IsLowestBehind, StaysFirstBy, IsLeastFirstEdge, IsLeastStay, RiseOver, IsLevelFault};
 
 use crate::fault::CertFault;
 use order_facts::Square;
@@ -27,7 +27,7 @@ fn first_fall(edges: &Square, levels: &[u32], x: usize) -> Option<usize>
     requires x { x < edges.now.size }
     requires size { length levels.now ≡ edges.now.size }
     ensures found { IfSome result (λ y. FallsFirst edges.now levels.now x y) }
-    ensures none { IfNone result ((y : ℕ) → ¬ FallsAlong edges.now levels.now x y) }
+    ensures none { IfNone result ((y : ℕ) → ¬ FallsIn edges.now levels.now x y) }
 {
     for y in 0..edges.size() {
         if edges.get(x, y) && levels[y] < levels[x] {
@@ -40,8 +40,9 @@ fn first_fall(edges: &Square, levels: &[u32], x: usize) -> Option<usize>
 /// The least edge along which the level falls.
 fn least_fall(edges: &Square, levels: &[u32]) -> Option<Edge>
     requires { length levels.now ≡ edges.now.size }
-    ensures found { IfSome result (λ pair. IsLeastFall edges.now levels.now pair) }
-    ensures none { IfNone result ((x y : ℕ) → ¬ FallsAlong edges.now levels.now x y) }
+    ensures found { IfSome result
+        (λ pair. IsLeastFall (Joins edges.now) (level_in levels.now) pair) }
+    ensures none { IfNone result ((x y : ℕ) → ¬ FallsIn edges.now levels.now x y) }
 {
     for x in 0..edges.size() {
         if let Some(y) = first_fall(edges, levels, x) {
@@ -57,7 +58,7 @@ fn first_stay(vulnerable: &Square, levels: &[u32], x: usize, y: usize) -> Option
     requires y { y < vulnerable.now.size }
     requires size { length levels.now ≡ vulnerable.now.size }
     ensures found { IfSome result (λ z. StaysFirst vulnerable.now levels.now x y z) }
-    ensures none { IfNone result ((z : ℕ) → ¬ Stays vulnerable.now levels.now x y z) }
+    ensures none { IfNone result ((z : ℕ) → ¬ StaysIn vulnerable.now levels.now x y z) }
 {
     if vulnerable.get(x, y) {
         for z in 0..vulnerable.size() {
@@ -93,7 +94,7 @@ fn first_stay_by(vulnerable: &Square, levels: &[u32], y: usize, end: usize) -> O
     requires size { length levels.now ≡ vulnerable.now.size }
     ensures found { IfSome result (λ x. (x < end) × StaysFirstBy vulnerable.now levels.now x y) }
     ensures none { IfNone result
-        ((x z : ℕ) → x < end → ¬ Stays vulnerable.now levels.now x y z) }
+        ((x z : ℕ) → x < end → ¬ StaysIn vulnerable.now levels.now x y z) }
 {
     let lowest = lowest_behind(vulnerable, levels, y)?;
     for x in 0..end {
@@ -109,7 +110,7 @@ fn first_stay_by(vulnerable: &Square, levels: &[u32], y: usize, end: usize) -> O
 fn least_first_edge(vulnerable: &Square, levels: &[u32]) -> Option<Edge>
     requires { length levels.now ≡ vulnerable.now.size }
     ensures found { IfSome result (λ pair. IsLeastFirstEdge vulnerable.now levels.now pair) }
-    ensures none { IfNone result ((x y z : ℕ) → ¬ Stays vulnerable.now levels.now x y z) }
+    ensures none { IfNone result ((x y z : ℕ) → ¬ StaysIn vulnerable.now levels.now x y z) }
 {
     let mut least = None;
     let mut end = vulnerable.size();
@@ -125,8 +126,9 @@ fn least_first_edge(vulnerable: &Square, levels: &[u32]) -> Option<Edge>
 /// The least two vulnerable edges over which the level doesn't rise.
 fn least_stay(vulnerable: &Square, levels: &[u32]) -> Option<Triple>
     requires { length levels.now ≡ vulnerable.now.size }
-    ensures found { IfSome result (λ triple. IsLeastStay vulnerable.now levels.now triple) }
-    ensures none { IfNone result ((x y z : ℕ) → ¬ Stays vulnerable.now levels.now x y z) }
+    ensures found { IfSome result
+        (λ triple. IsLeastStay (Joins vulnerable.now) (level_in levels.now) triple) }
+    ensures none { IfNone result ((x y z : ℕ) → ¬ StaysIn vulnerable.now levels.now x y z) }
 {
     let Edge { x, y } = least_first_edge(vulnerable, levels)?;
     let z = first_stay(vulnerable, levels, x, y)?;
@@ -138,7 +140,8 @@ pub fn check_levels(left: &EdgeTables, levels: &[u32]) -> Result<(), CertFault>
     requires edges { length levels.now ≡ left.now.edges.size }
     requires vulnerable { length levels.now ≡ left.now.vulnerable.size }
     ensures rise { OnOk result (RiseOver left.now levels.now) }
-    ensures fault { IfErr result (λ fault. IsLevelFault left.now levels.now fault) }
+    ensures fault { IfErr result (λ fault. IsLevelFault
+        (Joins left.now.edges) (Joins left.now.vulnerable) (level_in levels.now) fault) }
 {
     if let Some(Edge { x, y }) = least_fall(&left.edges, levels) {
         return Err(CertFault::LevelFalls(x, y));

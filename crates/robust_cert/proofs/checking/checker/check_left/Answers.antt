@@ -1,8 +1,9 @@
 use Rattle.std.proofs.Common.{ℕ, List, subst}
 use Rattle.std.specs.Prelude.{OnOk, IfErr}
 use Rattle.std.proofs.lemmas.Result.{on_ok_weaker, IfErr-weaker}
+use Rattle.order_facts.specs.Square.{Joins}
 use Rattle.robust_cert.specs.Refused.{IsFirstFault}
-use Rattle.robust_cert.specs.Levels.{RiseOver, IsLevelFault}
+use Rattle.robust_cert.specs.Levels.{level_in, RiseOver, IsLevelFault}
 use Rattle.robust_cert.proofs.Verdicts.{accepted-from_rise, first-from_levels}
 use Rattle.robust_cert.proofs.checking.checker.check_left.Goals as goal
 
@@ -15,5 +16,5 @@ returns-clause-accepted c =
 pub returns-clause-fault : goal.returns-clause-fault
 returns-clause-fault c =
     let left = c.in_ok-left.left in
-    let fault = subst (λ (l : List ℕ). IfErr c.check_levels.result (IsLevelFault left l)) c.as_slice.ensures c.check_levels.ensures.fault in
-    IfErr-weaker c.check_levels.result (IsLevelFault left c.args.certificate.now.levels) (IsFirstFault c.args.paths.now c.args.certificate.now) (first-from_levels c.args.paths.now c.args.certificate.now c.requires left c.in_ok-left.ensures) fault
+    let fault = subst (λ (l : List ℕ). IfErr c.check_levels.result (IsLevelFault (Joins left.edges) (Joins left.vulnerable) (level_in l))) c.as_slice.ensures c.check_levels.ensures.fault in
+    IfErr-weaker c.check_levels.result (IsLevelFault (Joins left.edges) (Joins left.vulnerable) (level_in c.args.certificate.now.levels)) (IsFirstFault c.args.paths.now c.args.certificate.now) (first-from_levels c.args.paths.now c.args.certificate.now c.requires left c.in_ok-left.ensures) fault

@@ -1,6 +1,6 @@
 use Rattle.std.proofs.Common.{ℕ, ◌<◌}
-use Rattle.robust_cert.specs.Levels.{FallsAlong}
+use Rattle.robust_cert.specs.Levels.{FallsIn}
 use Rattle.robust_cert.proofs.checking.levels.first_fall.Given as goal
 
 abbrev pub invariant-loop-y : goal.invariant-loop-y
-invariant-loop-y l = (y : ℕ) → y < l.y → ¬ FallsAlong l.edges l.levels l.x y
+invariant-loop-y l = (y : ℕ) → y < l.y → ¬ FallsIn l.edges l.levels l.x y
