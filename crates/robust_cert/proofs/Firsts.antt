@@ -17,7 +17,7 @@ use Rattle.robust_cert.specs.declared.fault.CertFault.{CertFault}
 use Rattle.robust_cert.specs.declared.fault.CertFault.TheVariants.{TooLarge, PathCount, NoSuchEntry, EntryOrder, BadChain, BadCover, LevelFalls, Dangerous, Memory}
 use Rattle.robust_cert.specs.Accepted.{numbers_told, question_of, IsFitting, ChainsHold, Holds}
 use Rattle.robust_cert.specs.Refused.{StandTo, IsAtFault, IsBehindLast, IsOutOfOrder, HasBadCover, HasBadChain, IsFirstFault}
-use Rattle.robust_cert.specs.Flaws.{IsAskedPair, StandsAt, IsEntryFault, IsFaultAt}
+use Rattle.robust_cert.specs.Flaws.{IsAskedPair, EntryStands, IsEntryFault, IsFaultAt}
 use Rattle.robust_cert.specs.Sharing.{Entry, entry_with}
 use Rattle.robust_cert.proofs.Cursor.{before_trans}
 use Rattle.robust_cert.proofs.Shared.{entry_at}
@@ -46,7 +46,7 @@ rise-push (x ∷ xs) e rise all = (
 
 module _ (nodes : List Path) (c : Certificate) (k : ℕ) (inside : k < length c.entries) (s : StandTo nodes c k) where
   -- one more entry stands
-  pub stand-more : StandsAt nodes c.entries k → StandTo nodes c (k + 1)
+  pub stand-more : EntryStands nodes c.entries k → StandTo nodes c (k + 1)
   stand-more stands =
       let w = entry_at c.entries k inside in
       let e = w.0 in
@@ -120,7 +120,7 @@ module _ (nodes : List Path) (entries : List Entry) (k : ℕ) (p : EntryQuestion
     same_entry : (e : Entry) → slice_get entries k ≡ Some e → entry_with p r ≡ e
     same_entry e at = ap₂ entry_with (about e at) (told e at)
 
-    pub entry-stands : IsFitting nodes (entry_with p r) → ChainsHold nodes (entry_with p r) → StandsAt nodes entries k
+    pub entry-stands : IsFitting nodes (entry_with p r) → ChainsHold nodes (entry_with p r) → EntryStands nodes entries k
     entry-stands fitting chains e at = (
       record { question = asked e at; fitting = subst (IsFitting nodes) (same_entry e at) fitting; chains = subst (ChainsHold nodes) (same_entry e at) chains },
       (says e at).0 yes,

@@ -47,8 +47,8 @@ IsFlawOf nodes e flaw.TheVariants.Cover = ¬ IsFitting nodes e
 IsFlawOf nodes e flaw.TheVariants.Chain = IsFitting nodes e × ¬ ChainsHold nodes e
 
 -- the entry of a number holds, and stands behind the one before it
-abbrev pub StandsAt : List Path → List Entry → ℕ → Type 0
-StandsAt nodes entries k =
+abbrev pub EntryStands : List Path → List Entry → ℕ → Type 0
+EntryStands nodes entries k =
     (e : Entry) → slice_get entries k ≡ Some e → Holds nodes e × IsBehindLast entries k e
 
 -- which fault the entry of a number has

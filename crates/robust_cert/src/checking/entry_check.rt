@@ -2,7 +2,7 @@
 ghost use Rattle.std.specs.Prelude.{◌≡◌, ◌↔◌, ◌<◌, length, Some, slice_get, IsTrue, OnOk, IfErr};
 ghost use Rattle.robust_cert.specs.declared.certificate.Certificate.{Certificate};
 ghost use Rattle.robust_cert.specs.Refused.{IsOfSize, StandTo, IsBehindLast, IsFirstFault};
-ghost use Rattle.robust_cert.specs.Flaws.{StandsAt, IsFaultAt};
+ghost use Rattle.robust_cert.specs.Flaws.{EntryStands, IsFaultAt};
 ghost use Rattle.robust_cert.specs.Sharing.{Entry};
 
 use crate::certificate::Certificate;
@@ -29,7 +29,7 @@ fn is_behind_last(entries: &Entries, k: usize) -> bool
 /// Whether the entry of a number is about a question, stands behind the last, and says what holds.
 fn check_entry(paths: &[Path], entries: &Entries, k: usize) -> Result<(), CertFault>
     requires { k < length entries.now }
-    ensures stands { OnOk result (StandsAt paths.now entries.now k) }
+    ensures stands { OnOk result (EntryStands paths.now entries.now k) }
     ensures fault { IfErr result (λ fault. IsFaultAt paths.now entries.now k fault) }
 {
     let question = entries.question(k);
