@@ -58,7 +58,7 @@ fn certificate_in(alloc: Global, value: Value) -> Result<Certificate, JsonFault>
 }
 
 // The certificate that the bytes are, by the reader of JSON.
-fn from_value(alloc: Global, bytes: &[u8]) -> Result<Certificate, JsonFault>
+fn from_any_json(alloc: Global, bytes: &[u8]) -> Result<Certificate, JsonFault>
     ensures ok { IfOk result (λ certificate. IsTextOf certificate bytes.now) }
     ensures fault { IfErr result (λ fault. fault ≢ JsonFault.Memory → HasFault bytes.now fault) }
     ensures taken { (c : Certificate) → IsTextOf c bytes.now → Answers result (Ok c) }
@@ -142,6 +142,6 @@ pub fn from_json(alloc: Global, bytes: &[u8]) -> Result<Certificate, JsonFault>
     match from_compact(alloc, bytes) {
         Ok(certificate) => Ok(certificate),
         Err(Untaken::Memory) => Err(JsonFault::Memory),
-        Err(Untaken::Misshapen) => from_value(alloc, bytes),
+        Err(Untaken::Misshapen) => from_any_json(alloc, bytes),
     }
 }

@@ -59,7 +59,7 @@ fn shared_of(
         → IsNotShared (members_view members.entries) }
 {
     let (entries, levels) = parts_of(members).ok_or(Untaken::Misshapen)?;
-    let entries = items_of(entries).ok_or(Untaken::Misshapen)?;
+    let entries = array_of(entries).ok_or(Untaken::Misshapen)?;
     let entries = entries_of(alloc, entries)?;
     let levels = list_of(alloc, &levels)?;
     Ok((entries, levels))
@@ -122,7 +122,7 @@ pub fn certificate_of(
 }
 
 // The items of a list.
-fn items_of(value: Value) -> Option<Vec<Value>>
+fn array_of(value: Value) -> Option<Vec<Value>>
     ensures some { IfSome result (λ items. view value ≡ array (items_view items.items)) }
     ensures none { IfNone result ((ds : Items) → view value ≢ array ds) }
 {
