@@ -189,7 +189,7 @@ judged-lists xs ys zs ws mine theirs p q (Covered m t chains) h =
       h.2,
     )
 judged-lists xs ys zs ws mine theirs p q (Exposed sample) h =
-    (h.0, λ k r asks m t c. h.1 k r asks m t (covers_at-alike (question_facts mine theirs) zs ws xs ys m t p.1 q.1 c))
+    (h.0, λ k asks m t c. h.1 k asks m t (covers_at-alike (question_facts mine theirs) zs ws xs ys m t p.1 q.1 c))
 
 judged-unplaced : (xs ys : List Access) (a b : Access) (v : Verdict) → IsJudged xs ys a b v → IsJudged xs ys (unplaced a) (unplaced b) v
 judged-unplaced xs ys a b (Apart chain) h = h

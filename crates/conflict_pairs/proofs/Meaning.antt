@@ -60,7 +60,7 @@ module _ (x y : Path) (a b : ℕ) (mine theirs : Access) (pair : IsPair mine the
   covered-right : (m t : ℕ) (chains : List (List Node)) → IsCoverFound own_facts mine.kind theirs.kind x.accesses y.accesses m t → ShowEqualAt own_facts x.accesses y.accesses m t chains → All (IsShortest own_facts) chains → IsCoveredBy (two x y) (between a b) mine theirs m t chains
   unfolding IsCovered-from_CoversAt
   covered-right m t chains h equal shortest = record {
-    asks = h.asks (between a b);
+    asks = h.asks;
     can_meet = can_meet h.consistent;
     least = record {
       cover = IsCovered-from_CoversAt m t h.first.covers;
@@ -76,7 +76,7 @@ module _ (x y : Path) (a b : ℕ) (mine theirs : Access) (pair : IsPair mine the
   exposed-right sample h none = record {
     meets = meets;
     nearest = h.1;
-    uncovered = λ asks c. none consistent (between a b) asks c.first c.second (CoversAt-from_IsCovered (can_meet consistent) c);
+    uncovered = λ asks c. none consistent asks c.first c.second (CoversAt-from_IsCovered (can_meet consistent) c);
   }
     where
       consistent : facts.IsConsistent own_facts
@@ -97,8 +97,8 @@ module _ (x y : Path) (a b : ℕ) (mine theirs : Access) (pair : IsPair mine the
   -- what the facts leave open is exposed
   exposed-open : IsLeftOpen x.accesses y.accesses mine theirs ↔ IsExposedQuestion (two x y) (between a b) mine theirs
   exposed-open = (
-    λ h. (can_meet h.0, λ asks c. h.1 h.0 (between a b) asks c.first c.second (CoversAt-from_IsCovered (can_meet h.0) c)),
-    λ h. ((law_of_questions mine theirs pair.table pair.single).1 h.0, λ k q asks m t covers. h.1 asks (IsCovered-from_CoversAt m t covers)),
+    λ h. (can_meet h.0, λ asks c. h.1 h.0 asks c.first c.second (CoversAt-from_IsCovered (can_meet h.0) c)),
+    λ h. ((law_of_questions mine theirs pair.table pair.single).1 h.0, λ k asks m t covers. h.1 asks (IsCovered-from_CoversAt m t covers)),
   )
 
 -- the accesses of a question between two paths
@@ -167,7 +167,7 @@ module _ (xs ys : List Access) (mine theirs : Access) (fs : List Fact) (is : fs 
   pub covered-not_open : (m t : ℕ) → IsCoverFound fs mine.kind theirs.kind xs ys m t → IsLeftOpen xs ys mine theirs → ⊥
   covered-not_open m t found h =
       let own = subst (λ (gs : List Fact). IsCoverFound gs mine.kind theirs.kind xs ys m t) is found in
-      h.1 h.0 (between 0 0) (own.asks (between 0 0)) m t own.first.covers
+      h.1 h.0 own.asks m t own.first.covers
 
 -- ---- where nothing covers
 

@@ -15,7 +15,7 @@ IsCoveredVerdict _ = ⊥
 -- the question asks for a read-write dependency, can meet, and is covered
 abbrev pub IsCoveredQuestion : List Path → QuestionNumbers → Access → Access → Type 0
 IsCoveredQuestion nodes q mine theirs =
-    AsksReadWrite q mine.kind theirs.kind × CanMeet mine theirs × IsCovered nodes q.x q.y mine theirs
+    AsksReadWrite mine.kind theirs.kind × CanMeet mine theirs × IsCovered nodes q.x q.y mine theirs
 
 -- which of the three a verdict is
 pub record IsExact (nodes : List Path) (q : QuestionNumbers) (mine theirs : Access) (verdict : Verdict) : Type 0 where

@@ -5,7 +5,7 @@ use Rattle.order_facts.specs.declared.steps.Fact.{Fact}
 use Rattle.order_facts.specs.Chain.{IsConsistent, IsOfI64, Meets}
 use Rattle.order_facts.specs.Sample.{sample_number, assignment_of, IsSampled}
 use Rattle.prog_check.specs.declared.path.Kind.{Kind}
-use Rattle.prog_paths.specs.StaticGraph.{QuestionNumbers, AsksReadWrite}
+use Rattle.prog_paths.specs.StaticGraph.{AsksReadWrite}
 use Rattle.prog_check.specs.declared.path.Access.{Access}
 use Rattle.prog_paths.specs.Facts.{question_facts}
 use Rattle.conflict_pairs.specs.Verdicts.{IsFall, FallsShortest, IsShortest}
@@ -50,13 +50,13 @@ pub record CoversFirst (facts : List Fact) (xs ys : List Access) (m t : ℕ) : T
 pub record IsCoverFound (facts : List Fact) (mine theirs : Kind) (xs ys : List Access)
     (m t : ℕ) : Type 0 where
   pub consistent : IsConsistent facts
-  pub asks : (q : QuestionNumbers) → AsksReadWrite q mine theirs
+  pub asks : AsksReadWrite mine theirs
   pub first : CoversFirst facts xs ys m t
 
 -- where such a question can meet there is none
 abbrev pub IsNoCover : List Fact → Kind → Kind → List Access → List Access → Type 0
 IsNoCover facts mine theirs xs ys =
-    IsConsistent facts → (q : QuestionNumbers) → AsksReadWrite q mine theirs → (m t : ℕ) → ¬ CoversAt facts xs ys m t
+    IsConsistent facts → AsksReadWrite mine theirs → (m t : ℕ) → ¬ CoversAt facts xs ys m t
 
 -- the facts of two accesses can be met, and nothing in their lists covers by them
 abbrev pub IsLeftOpen : List Access → List Access → Access → Access → Type 0

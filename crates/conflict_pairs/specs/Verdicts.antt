@@ -64,7 +64,7 @@ pub record IsLeastCover (nodes : List Path) (q : QuestionNumbers) (mine theirs :
 -- the question asks for a read-write dependency and can meet, and these two accesses cover it, as the chains show
 pub record IsCoveredBy (nodes : List Path) (q : QuestionNumbers) (mine theirs : Access) (m t : ℕ)
     (chains : List (List Node)) : Type 0 where
-  pub asks : AsksReadWrite q mine.kind theirs.kind
+  pub asks : AsksReadWrite mine.kind theirs.kind
   pub can_meet : CanMeet mine theirs
   pub least : IsLeastCover nodes q mine theirs m t
   pub equal : ShowEqual (question_facts mine theirs) (key_pairs least.cover.of_first least.cover.of_second) chains
@@ -91,7 +91,7 @@ pub record IsExposedBy (nodes : List Path) (q : QuestionNumbers) (mine theirs : 
     (sample : List Choice) : Type 0 where
   pub meets : MeetsUnder (mine_of sample) (theirs_of sample) mine theirs
   pub nearest : (n : Node) → IsSampled (question_facts mine theirs) n (sample_number sample n)
-  pub uncovered : AsksReadWrite q mine.kind theirs.kind → ¬ IsCovered nodes q.x q.y mine theirs
+  pub uncovered : AsksReadWrite mine.kind theirs.kind → ¬ IsCovered nodes q.x q.y mine theirs
 
 -- ---- the verdict
 
@@ -130,7 +130,7 @@ is_exposed (Exposed _) = true
 -- it can meet, and is not covered where it asks for a read-write dependency
 abbrev pub IsExposedQuestion : List Path → QuestionNumbers → Access → Access → Type 0
 IsExposedQuestion nodes q mine theirs =
-    CanMeet mine theirs × (AsksReadWrite q mine.kind theirs.kind → ¬ IsCovered nodes q.x q.y mine theirs)
+    CanMeet mine theirs × (AsksReadWrite mine.kind theirs.kind → ¬ IsCovered nodes q.x q.y mine theirs)
 
 -- the answer says whether it is
 abbrev pub TellsExposed : List Path → QuestionNumbers → Bool → Type 0

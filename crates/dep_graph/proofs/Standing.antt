@@ -45,7 +45,7 @@ module _ (paths : List Path) (q : QuestionNumbers) (mine theirs : Access) where
   right-meets (Covered m t chains) r _ = refl
   right-meets (Exposed sample) r _ = refl
 
-  exposed-right : (v : Verdict) → IsRightOf paths q mine theirs v → AsksReadWrite q mine.kind theirs.kind → is_exposed v ≡ true → IsExposed paths q mine theirs
+  exposed-right : (v : Verdict) → IsRightOf paths q mine theirs v → AsksReadWrite mine.kind theirs.kind → is_exposed v ≡ true → IsExposed paths q mine theirs
   exposed-right (Apart chain) r a e = absurd (false≢true e)
   exposed-right (Covered m t chains) r a e = absurd (false≢true e)
   exposed-right (Exposed sample) r a e = ((mine_of sample, theirs_of sample, r.meets), r.uncovered a)
@@ -99,7 +99,7 @@ module _ (t : Table) (paths : List Path) (s : StandsFor t paths) where
       let a = asked_of e i in
       edge-from_mark Meets paths e.question a (can_meet e.verdict) (is_exposed e.verdict) (meets-right paths (numbers_of e.question) a.mine a.theirs e.verdict (right_of e i a.mine a.theirs a.asked))
 
-  exposes : (e : Judged) (i : Contains t.entries e) → AsksReadWrite (numbers_of e.question) (asked_of e i).mine.kind (asked_of e i).theirs.kind → is_exposed e.verdict ≡ true → IsExposed paths (numbers_of e.question) (asked_of e i).mine (asked_of e i).theirs
+  exposes : (e : Judged) (i : Contains t.entries e) → AsksReadWrite (asked_of e i).mine.kind (asked_of e i).theirs.kind → is_exposed e.verdict ≡ true → IsExposed paths (numbers_of e.question) (asked_of e i).mine (asked_of e i).theirs
   exposes e i =
       let a = asked_of e i in
       exposed-right paths (numbers_of e.question) a.mine a.theirs e.verdict (right_of e i a.mine a.theirs a.asked)
@@ -149,7 +149,7 @@ module _ (t : Table) (paths : List Path) (s : StandsFor t paths) where
   pub HasVulnerable-from_vulnerable : IsWithin (IsVulnerable paths) (HasVulnerable (marks_of t))
   HasVulnerable-from_vulnerable x y h =
       let f = given x y h in
-      let inside = HasQuestion-inside (IsExposed paths) paths AsksReadWrite x y h in
+      let inside = HasQuestion-inside (IsExposed paths) paths (λ q. AsksReadWrite) x y h in
       let nodes = s.nodes in
       record { x_inside = omega (arith, nodes, inside.0); y_inside = omega (arith, nodes, inside.1); has = in_any (gives_vulnerable x y) (map mark_of t.entries) (mark_of f.entry) (contains_mapped mark_of t.entries f.entry f.is_in) f.gives }
 

@@ -1,7 +1,7 @@
 -- The least dangerous structure of a list of paths.
 use Rattle.std.specs.Prelude.{◌≡◌, ℕ, ◌<◌, ◌≤◌, ◌⊎◌, List, [], ◌∷◌, Some, slice_get}
 use Rattle.prog_check.specs.declared.path.Path.{Path}
-use Rattle.prog_paths.specs.StaticGraph.{AsksReadWrite, HasQuestion, IsExposed, StaticEdge, IsVulnerable, IsDangerousAt}
+use Rattle.prog_paths.specs.StaticGraph.{IsExposed, StaticEdge, IsVulnerable, IsDangerousAt, HasReadWrite}
 use Rattle.conflict_pairs.specs.declared.verdicts.Verdict.TheVariants.{Exposed}
 use Rattle.conflict_pairs.specs.Verdicts.{IsExposedBy}
 use Rattle.conflict_pairs.specs.Table.{Judged, Table}
@@ -24,12 +24,12 @@ pub record IsFirstExposure (t : Table) (x y : ℕ) (e : Exposure) : Type 0 where
 -- a question that makes the edge from x to y vulnerable, with its kinds and its sample; none of these questions is
 -- before it
 pub record IsLeastExposed (paths : List Path) (x y : ℕ) (e : Exposure) : Type 0 where
-  pub exposed : HasQuestion AsksReadWrite (IsExposed paths) paths x y
+  pub exposed : HasReadWrite (IsExposed paths) paths x y
   pub is : exposed.question ≡ numbers_of e.question
   pub mine_kind : e.question.mine ≡ exposed.mine.kind
   pub their_kind : e.question.theirs ≡ exposed.theirs.kind
   pub sample : IsExposedBy paths exposed.question exposed.mine exposed.theirs e.sample
-  pub least : (h : HasQuestion AsksReadWrite (IsExposed paths) paths x y)
+  pub least : (h : HasReadWrite (IsExposed paths) paths x y)
       → (e.question.a < h.question.a) ⊎ ((e.question.a ≡ h.question.a) × (e.question.b ≤ h.question.b))
 
 -- two vulnerable edges in a row and a way back, and none before them: each edge with its least exposed question, and

@@ -20,8 +20,8 @@ HasQuestion-weaker asks P Q nodes f x y h = record {
 }
 
 pub EdgeOf-weaker : (P Q : QuestionNumbers → Access → Access → Type 0) (nodes : List Path) → ((q : QuestionNumbers) (mine theirs : Access) → AsksOf nodes q mine theirs → Asks q mine.kind theirs.kind → P q mine theirs → Q q mine theirs) → (x y : ℕ) → EdgeOf P nodes x y → EdgeOf Q nodes x y
-EdgeOf-weaker P Q nodes f x y (inl h) = inl (HasQuestion-weaker AsksReadWrite P Q nodes (λ q m t a k. f q m t a (inl k)) x y h)
-EdgeOf-weaker P Q nodes f x y (inr (inl h)) = inr (inl (HasQuestion-weaker AsksWriteRead P Q nodes (λ q m t a k. f q m t a (inr (inl k))) y x h))
+EdgeOf-weaker P Q nodes f x y (inl h) = inl (HasQuestion-weaker (λ q. AsksReadWrite) P Q nodes (λ q m t a k. f q m t a (inl k)) x y h)
+EdgeOf-weaker P Q nodes f x y (inr (inl h)) = inr (inl (HasQuestion-weaker (λ q. AsksWriteRead) P Q nodes (λ q m t a k. f q m t a (inr (inl k))) y x h))
 EdgeOf-weaker P Q nodes f x y (inr (inr (inl h))) = inr (inr (inl (HasQuestion-weaker AsksWriteWrite P Q nodes (λ q m t a k. f q m t a (inr (inr k))) x y h)))
 EdgeOf-weaker P Q nodes f x y (inr (inr (inr h))) = inr (inr (inr (HasQuestion-weaker AsksWriteWrite P Q nodes (λ q m t a k. f q m t a (inr (inr k))) y x h)))
 
@@ -39,7 +39,7 @@ module _ (P : QuestionNumbers → Access → Access → Type 0) (nodes : List Pa
   )
 
   pub EdgeOf-inside : (x y : ℕ) → EdgeOf P nodes x y → AreInside nodes x y
-  EdgeOf-inside x y (inl h) = HasQuestion-inside AsksReadWrite x y h
-  EdgeOf-inside x y (inr (inl h)) = let r = HasQuestion-inside AsksWriteRead y x h in (r.1, r.0)
+  EdgeOf-inside x y (inl h) = HasQuestion-inside (λ q. AsksReadWrite) x y h
+  EdgeOf-inside x y (inr (inl h)) = let r = HasQuestion-inside (λ q. AsksWriteRead) y x h in (r.1, r.0)
   EdgeOf-inside x y (inr (inr (inl h))) = HasQuestion-inside AsksWriteWrite x y h
   EdgeOf-inside x y (inr (inr (inr h))) = let r = HasQuestion-inside AsksWriteWrite y x h in (r.1, r.0)

@@ -162,35 +162,35 @@ close_adds : (k : ℕ) (a : Access) → IsAccessOf ledger 1 k a → AddsClosed a
 close_adds = of_node AddsClosed ledger 1 close refl ((refl, refl), tt)
 
 -- what adds asks for no read-write dependency
-adds_ask_nothing : (q : QuestionNumbers) (a b : Kind) → a ≡ Adds → AsksReadWrite q a b → ⊥
-adds_ask_nothing q a b e (inl h) =
+adds_ask_nothing : (a b : Kind) → a ≡ Adds → AsksReadWrite a b → ⊥
+adds_ask_nothing a b e (inl h) =
     let reads = h.0 in
     absurd (cc)
-adds_ask_nothing q a b e (inr h) =
+adds_ask_nothing a b e (inr h) =
     let lacks = h.0 in
     absurd (cc)
 
-seen_of : (q : QuestionNumbers) (a b : Kind) → AsksWriteRead q a b → (a ≡ Reads) ⊎ (a ≡ Sees)
-seen_of q a b (inl h) = inl h.0
-seen_of q a b (inr h) = inr h.0
+seen_of : (a b : Kind) → AsksWriteRead a b → (a ≡ Reads) ⊎ (a ≡ Sees)
+seen_of a b (inl h) = inl h.0
+seen_of a b (inr h) = inr h.0
 
 -- nothing depends on Close, for nothing in the set sees a closed day
 no_edge_from_close : (y : ℕ) → StaticEdge ledger 1 y → ⊥
-no_edge_from_close y (inl h) = adds_ask_nothing h.question h.mine.kind h.theirs.kind (close_adds h.question.a h.mine (mine_at AsksReadWrite (λ q a b. CanMeet a b) 1 y h)).0 h.kinds
+no_edge_from_close y (inl h) = adds_ask_nothing h.mine.kind h.theirs.kind (close_adds h.question.a h.mine (mine_at (λ q. AsksReadWrite) (λ q a b. CanMeet a b) 1 y h)).0 h.kinds
 no_edge_from_close y (inr (inl h)) =
-    let closed = (close_adds h.question.b h.theirs (theirs_at AsksWriteRead (λ q a b. CanMeet a b) y 1 h)).1 in
-    let entry = ledger_sees_entries y h.question.a h.mine (mine_at AsksWriteRead (λ q a b. CanMeet a b) y 1 h) (seen_of h.question h.mine.kind h.theirs.kind h.kinds) in
+    let closed = (close_adds h.question.b h.theirs (theirs_at (λ q. AsksWriteRead) (λ q a b. CanMeet a b) y 1 h)).1 in
+    let entry = ledger_sees_entries y h.question.a h.mine (mine_at (λ q. AsksWriteRead) (λ q a b. CanMeet a b) y 1 h) (seen_of h.mine.kind h.theirs.kind h.kinds) in
     let same = h.asked.table in
     absurd (omega arith)
 no_edge_from_close y (inr (inr (inl h))) = ledger_has_no_write 1 h.question.a h.mine (mine_at AsksWriteWrite (λ q a b. CanMeet a b) 1 y h) h.kinds.0
 no_edge_from_close y (inr (inr (inr h))) = ledger_has_no_write y h.question.a h.mine (mine_at AsksWriteWrite (λ q a b. CanMeet a b) y 1 h) h.kinds.0
 
 no_vulnerable_from_close : (y : ℕ) → IsVulnerable ledger 1 y → ⊥
-no_vulnerable_from_close y h = adds_ask_nothing h.question h.mine.kind h.theirs.kind (close_adds h.question.a h.mine (mine_at AsksReadWrite (IsExposed ledger) 1 y h)).0 h.kinds
+no_vulnerable_from_close y h = adds_ask_nothing h.mine.kind h.theirs.kind (close_adds h.question.a h.mine (mine_at (λ q. AsksReadWrite) (IsExposed ledger) 1 y h)).0 h.kinds
 
-changed_of : (q : QuestionNumbers) (a b : Kind) → AsksReadWrite q a b → (b ≡ Writes) ⊎ (b ≡ Adds)
-changed_of q a b (inl h) = h.1
-changed_of q a b (inr h) = inr h.1
+changed_of : (a b : Kind) → AsksReadWrite a b → (b ≡ Writes) ⊎ (b ≡ Adds)
+changed_of a b (inl h) = h.1
+changed_of a b (inr h) = inr h.1
 
 abbrev ChangesNothing : Access → Type 0
 ChangesNothing a = (a.kind ≡ Writes) ⊎ (a.kind ≡ Adds) → ⊥
@@ -203,7 +203,7 @@ reads_change_nothing k e (inr h) = absurd (cc)
 no_vulnerable_to_total : (x : ℕ) → IsVulnerable ledger x 2 → ⊥
 no_vulnerable_to_total x h =
     of_node ChangesNothing ledger 2 total refl (reads_change_nothing Reads refl, tt) h.question.b h.theirs
-    (theirs_at AsksReadWrite (IsExposed ledger) x 2 h) (changed_of h.question h.mine.kind h.theirs.kind h.kinds)
+    (theirs_at (λ q. AsksReadWrite) (IsExposed ledger) x 2 h) (changed_of h.mine.kind h.theirs.kind h.kinds)
 
 abbrev AsksOfClosed : Access → Type 0
 AsksOfClosed a = (a.kind ≡ Adds → ⊥) → a.table ≡ 0
@@ -219,17 +219,17 @@ lacks_changes_nothing k e (inr h) = absurd (cc)
 no_vulnerable_in_post : IsVulnerable ledger 0 0 → ⊥
 no_vulnerable_in_post h =
     let mine : h.mine.table ≡ 0 =
-    of_node AsksOfClosed ledger 0 post refl (λ n. refl, (λ n. absurd (n refl), tt)) h.question.a h.mine (mine_at AsksReadWrite (IsExposed ledger) 0 0 h)
-    (λ e. adds_ask_nothing h.question h.mine.kind h.theirs.kind e h.kinds) in
+    of_node AsksOfClosed ledger 0 post refl (λ n. refl, (λ n. absurd (n refl), tt)) h.question.a h.mine (mine_at (λ q. AsksReadWrite) (IsExposed ledger) 0 0 h)
+    (λ e. adds_ask_nothing h.mine.kind h.theirs.kind e h.kinds) in
     let theirs : h.theirs.table ≡ 1 =
-    of_node AddsEntries ledger 0 post refl (λ c. absurd (lacks_changes_nothing Lacks refl c), (λ c. refl, tt)) h.question.b h.theirs (theirs_at AsksReadWrite (IsExposed ledger) 0 0 h)
-    (changed_of h.question h.mine.kind h.theirs.kind h.kinds) in
+    of_node AddsEntries ledger 0 post refl (λ c. absurd (lacks_changes_nothing Lacks refl c), (λ c. refl, tt)) h.question.b h.theirs (theirs_at (λ q. AsksReadWrite) (IsExposed ledger) 0 0 h)
+    (changed_of h.mine.kind h.theirs.kind h.kinds) in
     let same = h.asked.table in
     absurd (omega arith)
 
 -- a node of no place has no access
 no_vulnerable_past : (x k : ℕ) → IsVulnerable ledger x (suc (suc (suc k))) → ⊥
-no_vulnerable_past x k h = nowhere (theirs_at AsksReadWrite (IsExposed ledger) x (suc (suc (suc k))) h)
+no_vulnerable_past x k h = nowhere (theirs_at (λ q. AsksReadWrite) (IsExposed ledger) x (suc (suc (suc k))) h)
   where
     nowhere : IsAccessOf ledger (suc (suc (suc k))) h.question.b h.theirs → ⊥
     nowhere (p, is, got) = absurd (cc)

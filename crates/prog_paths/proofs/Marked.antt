@@ -7,7 +7,7 @@ use Rattle.prog_check.specs.declared.path.Kind.{Kind}
 use Rattle.prog_check.specs.declared.path.Kind.TheVariants.{Reads, Sees, Lacks, Writes, Adds}
 use Rattle.prog_check.specs.declared.path.Access.{Access}
 use Rattle.prog_check.specs.declared.path.Path.{Path}
-use Rattle.prog_paths.specs.StaticGraph.{QuestionNumbers, IsAccessOf, AsksOf, AsksReadWrite, AsksWriteRead, AsksWriteWrite, HasQuestion, EdgeOf}
+use Rattle.prog_paths.specs.StaticGraph.{QuestionNumbers, IsAccessOf, AsksOf, AsksReadWrite, AsksWriteRead, AsksWriteWrite, HasQuestion, EdgeOf, HasReadWrite}
 use Rattle.prog_paths.specs.declared.accesses.places.Question.{Question}
 use Rattle.prog_paths.specs.Questions.{Asks, asks_read_write, asks_write_read, both_write, numbers_of}
 use Rattle.prog_paths.specs.Listing.{IsAskedOf}
@@ -15,27 +15,27 @@ use Rattle.prog_paths.specs.Marks.{mark_by, gives_edge, gives_vulnerable}
 
 -- ---- kinds
 
-pub read_write-true : (q : QuestionNumbers) (a b : Kind) → asks_read_write a b ≡ true → AsksReadWrite q a b
-read_write-true q Reads Writes e = inl (refl, inl refl)
-read_write-true q Reads Adds e = inl (refl, inr refl)
-read_write-true q Lacks Adds e = inr (refl, refl)
-read_write-true q _ _ e = absurd (false≢true e)
+pub read_write-true : (a b : Kind) → asks_read_write a b ≡ true → AsksReadWrite a b
+read_write-true Reads Writes e = inl (refl, inl refl)
+read_write-true Reads Adds e = inl (refl, inr refl)
+read_write-true Lacks Adds e = inr (refl, refl)
+read_write-true _ _ e = absurd (false≢true e)
 
-pub true-read_write : (q : QuestionNumbers) (a b : Kind) → AsksReadWrite q a b → asks_read_write a b ≡ true
-true-read_write q a b (inl (x, inl y)) = rw (x, y) refl
-true-read_write q a b (inl (x, inr y)) = rw (x, y) refl
-true-read_write q a b (inr (x, y)) = rw (x, y) refl
+pub true-read_write : (a b : Kind) → AsksReadWrite a b → asks_read_write a b ≡ true
+true-read_write a b (inl (x, inl y)) = rw (x, y) refl
+true-read_write a b (inl (x, inr y)) = rw (x, y) refl
+true-read_write a b (inr (x, y)) = rw (x, y) refl
 
-write_read-true : (q : QuestionNumbers) (a b : Kind) → asks_write_read a b ≡ true → AsksWriteRead q a b
-write_read-true q Reads Writes e = inl (refl, inl refl)
-write_read-true q Reads Adds e = inl (refl, inr refl)
-write_read-true q Sees Adds e = inr (refl, refl)
-write_read-true q _ _ e = absurd (false≢true e)
+write_read-true : (a b : Kind) → asks_write_read a b ≡ true → AsksWriteRead a b
+write_read-true Reads Writes e = inl (refl, inl refl)
+write_read-true Reads Adds e = inl (refl, inr refl)
+write_read-true Sees Adds e = inr (refl, refl)
+write_read-true _ _ e = absurd (false≢true e)
 
-true-write_read : (q : QuestionNumbers) (a b : Kind) → AsksWriteRead q a b → asks_write_read a b ≡ true
-true-write_read q a b (inl (x, inl y)) = rw (x, y) refl
-true-write_read q a b (inl (x, inr y)) = rw (x, y) refl
-true-write_read q a b (inr (x, y)) = rw (x, y) refl
+true-write_read : (a b : Kind) → AsksWriteRead a b → asks_write_read a b ≡ true
+true-write_read a b (inl (x, inl y)) = rw (x, y) refl
+true-write_read a b (inl (x, inr y)) = rw (x, y) refl
+true-write_read a b (inr (x, y)) = rw (x, y) refl
 
 -- two that both write ask as such, if they ask at all
 writes-asked : (q : QuestionNumbers) (a b : Kind) → Asks q a b → both_write a b ≡ true → AsksWriteWrite q a b
@@ -80,11 +80,11 @@ module _ (P : QuestionNumbers → Access → Access → Type 0) (nodes : List Pa
     edge-from_mark holds x y h = go (or_cases ((mark_by q meets exposed).forward && (q.x == x && q.y == y)) _ h)
       where
         forward : q.x ≡ x → q.y ≡ y → P (numbers_of q) a.mine a.theirs → (asks_read_write q.mine q.theirs ≡ true) ⊎ (both_write q.mine q.theirs ≡ true) → EdgeOf P nodes x y
-        forward from to p (inl k) = inl (question AsksReadWrite x y from to (read_write-true (numbers_of q) _ _ (moved asks_read_write k)) p)
+        forward from to p (inl k) = inl (question (λ q. AsksReadWrite) x y from to (read_write-true _ _ (moved asks_read_write k)) p)
         forward from to p (inr k) = inr (inr (inl (question AsksWriteWrite x y from to (writes-asked (numbers_of q) _ _ a.asks (moved both_write k)) p)))
 
         backward : q.y ≡ x → q.x ≡ y → P (numbers_of q) a.mine a.theirs → (asks_write_read q.mine q.theirs ≡ true) ⊎ (both_write q.mine q.theirs ≡ true) → EdgeOf P nodes x y
-        backward to from p (inl k) = inr (inl (question AsksWriteRead y x from to (write_read-true (numbers_of q) _ _ (moved asks_write_read k)) p))
+        backward to from p (inl k) = inr (inl (question (λ q. AsksWriteRead) y x from to (write_read-true _ _ (moved asks_write_read k)) p))
         backward to from p (inr k) = inr (inr (inr (question AsksWriteWrite y x from to (writes-asked (numbers_of q) _ _ a.asks (moved both_write k)) p)))
 
         go : (((mark_by q meets exposed).forward && (q.x == x && q.y == y)) ≡ true) ⊎ (((mark_by q meets exposed).backward && (q.y == x && q.x == y)) ≡ true) → EdgeOf P nodes x y
@@ -99,15 +99,15 @@ module _ (P : QuestionNumbers → Access → Access → Type 0) (nodes : List Pa
             let g = and_parts meets _ p.0 in
             backward (eqb-true _ _ ends.0) (eqb-true _ _ ends.1) (holds g.0) (or_cases _ _ g.1)
 
-    pub vulnerable-from_mark : (AsksReadWrite (numbers_of q) a.mine.kind a.theirs.kind → exposed ≡ true → P (numbers_of q) a.mine a.theirs) → (x y : ℕ) → gives_vulnerable x y (mark_by q meets exposed) ≡ true → HasQuestion AsksReadWrite P nodes x y
+    pub vulnerable-from_mark : (AsksReadWrite a.mine.kind a.theirs.kind → exposed ≡ true → P (numbers_of q) a.mine a.theirs) → (x y : ℕ) → gives_vulnerable x y (mark_by q meets exposed) ≡ true → HasReadWrite P nodes x y
     vulnerable-from_mark holds x y h =
         let p = and_parts (mark_by q meets exposed).vulnerable _ h in
         let ends = and_parts (q.x == x) _ p.1 in
         let g = and_parts exposed _ p.0 in
-        let asks = read_write-true (numbers_of q) _ _ (moved asks_read_write g.1) in
-        question AsksReadWrite x y (eqb-true _ _ ends.0) (eqb-true _ _ ends.1) asks (holds asks g.0)
+        let asks = read_write-true _ _ (moved asks_read_write g.1) in
+        question (λ q. AsksReadWrite) x y (eqb-true _ _ ends.0) (eqb-true _ _ ends.1) asks (holds asks g.0)
 
-    pub vulnerable-from_mark-question : (holds : AsksReadWrite (numbers_of q) a.mine.kind a.theirs.kind → exposed ≡ true → P (numbers_of q) a.mine a.theirs) (x y : ℕ) (h : gives_vulnerable x y (mark_by q meets exposed) ≡ true) → (vulnerable-from_mark holds x y h).question ≡ numbers_of q
+    pub vulnerable-from_mark-question : (holds : AsksReadWrite a.mine.kind a.theirs.kind → exposed ≡ true → P (numbers_of q) a.mine a.theirs) (x y : ℕ) (h : gives_vulnerable x y (mark_by q meets exposed) ≡ true) → (vulnerable-from_mark holds x y h).question ≡ numbers_of q
     unfolding vulnerable-from_mark question
     vulnerable-from_mark-question holds x y h = refl
 
@@ -165,10 +165,10 @@ module _ (P : QuestionNumbers → Access → Access → Type 0) (nodes : List Pa
     }
 
   pub mark-from_edge : (x y : ℕ) → EdgeOf P nodes x y → GivesEdge x y
-  mark-from_edge x y (inl h) = forward-given AsksReadWrite x y h (inl h.kinds) (or_left _ _ (true-read_write h.question _ _ h.kinds))
-  mark-from_edge x y (inr (inl h)) = backward-given AsksWriteRead y x h (inr (inl h.kinds)) (or_left _ _ (true-write_read h.question _ _ h.kinds))
+  mark-from_edge x y (inl h) = forward-given (λ q. AsksReadWrite) x y h (inl h.kinds) (or_left _ _ (true-read_write _ _ h.kinds))
+  mark-from_edge x y (inr (inl h)) = backward-given (λ q. AsksWriteRead) y x h (inr (inl h.kinds)) (or_left _ _ (true-write_read _ _ h.kinds))
   mark-from_edge x y (inr (inr (inl h))) = forward-given AsksWriteWrite x y h (inr (inr h.kinds)) (or_right (asks_read_write h.mine.kind h.theirs.kind) _ (true-writes h.question _ _ h.kinds))
   mark-from_edge x y (inr (inr (inr h))) = backward-given AsksWriteWrite y x h (inr (inr h.kinds)) (or_right (asks_write_read h.mine.kind h.theirs.kind) _ (true-writes h.question _ _ h.kinds))
 
-  pub mark-from_vulnerable : (x y : ℕ) → (h : HasQuestion AsksReadWrite P nodes x y) → GivesVulnerable x y h.question
-  mark-from_vulnerable x y h = vulnerable-given AsksReadWrite x y h (inl h.kinds) (true-read_write h.question _ _ h.kinds)
+  pub mark-from_vulnerable : (x y : ℕ) → (h : HasReadWrite P nodes x y) → GivesVulnerable x y h.question
+  mark-from_vulnerable x y h = vulnerable-given (λ q. AsksReadWrite) x y h (inl h.kinds) (true-read_write _ _ h.kinds)

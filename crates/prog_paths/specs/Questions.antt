@@ -11,7 +11,7 @@ use Rattle.prog_paths.specs.declared.accesses.places.Question.{Question}
 
 -- what the kinds of two accesses ask: whether instances can have some dependency by them
 abbrev pub Asks : QuestionNumbers → Kind → Kind → Type 0
-Asks q mine theirs = AsksReadWrite q mine theirs ⊎ AsksWriteRead q mine theirs ⊎ AsksWriteWrite q mine theirs
+Asks q mine theirs = AsksReadWrite mine theirs ⊎ AsksWriteRead mine theirs ⊎ AsksWriteWrite q mine theirs
 
 -- a question of the paths: its two accesses are there, use one table, and ask something
 pub record IsQuestion (nodes : List Path) (q : QuestionNumbers) : Type 0 where

@@ -21,12 +21,12 @@ pub record QuestionNumbers : Type 0 where
   pub b : ℕ
 
 -- what the first access does not see, the second changes: a read-write dependency, first to second
-abbrev pub AsksReadWrite : QuestionNumbers → Kind → Kind → Type 0
-AsksReadWrite q a b = ((a ≡ Reads) × ((b ≡ Writes) ⊎ (b ≡ Adds))) ⊎ ((a ≡ Lacks) × (b ≡ Adds))
+abbrev pub AsksReadWrite : Kind → Kind → Type 0
+AsksReadWrite a b = ((a ≡ Reads) × ((b ≡ Writes) ⊎ (b ≡ Adds))) ⊎ ((a ≡ Lacks) × (b ≡ Adds))
 
 -- what the second changes, the first sees: a write-read dependency, second to first
-abbrev pub AsksWriteRead : QuestionNumbers → Kind → Kind → Type 0
-AsksWriteRead q a b = ((a ≡ Reads) × ((b ≡ Writes) ⊎ (b ≡ Adds))) ⊎ ((a ≡ Sees) × (b ≡ Adds))
+abbrev pub AsksWriteRead : Kind → Kind → Type 0
+AsksWriteRead a b = ((a ≡ Reads) × ((b ≡ Writes) ⊎ (b ≡ Adds))) ⊎ ((a ≡ Sees) × (b ≡ Adds))
 
 -- the first access stands at the second or before it, by node and then by number
 abbrev pub IsInOrder : QuestionNumbers → Type 0
@@ -54,12 +54,20 @@ pub record HasQuestion (asks : QuestionNumbers → Kind → Kind → Type 0) (P 
   pub kinds : asks question mine.kind theirs.kind
   pub holds : P question mine theirs
 
+-- a question for a read-write dependency
+abbrev pub HasReadWrite : (QuestionNumbers → Access → Access → Type 0) → List Path → ℕ → ℕ → Type 0
+HasReadWrite = HasQuestion (λ q. AsksReadWrite)
+
+-- a question for a write-read dependency
+abbrev pub HasWriteRead : (QuestionNumbers → Access → Access → Type 0) → List Path → ℕ → ℕ → Type 0
+HasWriteRead = HasQuestion (λ q. AsksWriteRead)
+
 -- ---- edges
 
 -- the edges that the questions with P give
 abbrev pub EdgeOf : (QuestionNumbers → Access → Access → Type 0) → List Path → ℕ → ℕ → Type 0
 EdgeOf P nodes x y =
-    HasQuestion AsksReadWrite P nodes x y ⊎ HasQuestion AsksWriteRead P nodes y x
+    HasReadWrite P nodes x y ⊎ HasWriteRead P nodes y x
     ⊎ HasQuestion AsksWriteWrite P nodes x y ⊎ HasQuestion AsksWriteWrite P nodes y x
 
 -- instances of x and y can have a dependency, x before y
@@ -84,7 +92,7 @@ IsExposed nodes q mine theirs = CanMeet mine theirs × (IsCovered nodes q.x q.y 
 
 -- instances of x and y can be concurrent with a read-write dependency
 abbrev pub IsVulnerable : List Path → ℕ → ℕ → Type 0
-IsVulnerable nodes x y = HasQuestion AsksReadWrite (IsExposed nodes) nodes x y
+IsVulnerable nodes x y = HasReadWrite (IsExposed nodes) nodes x y
 
 -- ---- dangerous structures
 

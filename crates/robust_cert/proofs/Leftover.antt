@@ -113,5 +113,5 @@ module _ (nodes : List Path) (entries : List Entry) (rise : RiseBy question_of e
 
     pub joins-from_vulnerable : (x y : ℕ) → IsLeftVulnerable nodes entries x y → Joins left.vulnerable x y
     joins-from_vulnerable x y e =
-        let inside = HasQuestion-inside Untold nodes AsksReadWrite x y e in
+        let inside = HasQuestion-inside Untold nodes (λ q. AsksReadWrite) x y e in
         joined-from_test left.vulnerable (length nodes) (some_vulnerable entries (questions_of nodes)) l.vulnerable x y inside.0 inside.1 (vulnerable-listed x y e)

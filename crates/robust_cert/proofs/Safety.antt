@@ -96,7 +96,7 @@ module _ (nodes : List Path) (single : All ChangesSingleCells nodes) (c : Certif
   left = EdgeOf-weaker Meets Free nodes (λ q mine theirs asked asks meet told. apart-right q mine theirs asked asks told meet)
 
   exposed : (x y : ℕ) → IsVulnerable nodes x y → IsLeftVulnerable nodes c.entries x y
-  exposed = HasQuestion-weaker AsksReadWrite (IsExposed nodes) Untold nodes (λ q mine theirs asked kinds bare told. bare.1 (told-right q mine theirs asked (inl kinds) told bare.0))
+  exposed = HasQuestion-weaker (λ q. AsksReadWrite) (IsExposed nodes) Untold nodes (λ q mine theirs asked kinds bare told. bare.1 (told-right q mine theirs asked (inl kinds) told bare.0))
 
   along : (x y : ℕ) → Leads (StaticEdge nodes) x y → Leads (IsLeft nodes c.entries) x y
   along x _ here = here

@@ -3,7 +3,7 @@ use Rattle.std.specs.Prelude.{◌≡◌, ℕ, ◌<◌, ◌≤◌, ◌*◌, List,
 use Rattle.prog_check.specs.declared.path.Access.{Access}
 use Rattle.prog_check.specs.declared.path.Path.{Path}
 use Rattle.prog_paths.specs.Meeting.{MayCover}
-use Rattle.prog_paths.specs.StaticGraph.{IsAccessOf, AsksOf, AsksReadWrite, HasQuestion, EdgeOf}
+use Rattle.prog_paths.specs.StaticGraph.{IsAccessOf, AsksOf, AsksReadWrite, EdgeOf, HasReadWrite}
 use Rattle.prog_paths.specs.StaticGraph as graph
 use Rattle.prog_paths.specs.Facts.{question_facts}
 use Rattle.prog_paths.specs.Questions.{IsQuestion, questions_of}
@@ -34,7 +34,7 @@ pub record IsCoverOf (nodes : List Path) (q : graph.QuestionNumbers) (m t : ℕ)
   pub mine : Access
   pub theirs : Access
   pub asked : AsksOf nodes q mine theirs
-  pub asks : AsksReadWrite q mine.kind theirs.kind
+  pub asks : AsksReadWrite mine.kind theirs.kind
   pub at_mine : IsAccessOf nodes q.x m of_mine
   pub at_theirs : IsAccessOf nodes q.y t of_theirs
   pub mine_covers : MayCover of_mine
@@ -92,7 +92,7 @@ IsLeft nodes entries = EdgeOf (λ q mine theirs. ¬ IsToldApart entries q) nodes
 
 -- and is vulnerable where a question for a read-write dependency is not told
 abbrev pub IsLeftVulnerable : List Path → List Entry → ℕ → ℕ → Type 0
-IsLeftVulnerable nodes entries = HasQuestion AsksReadWrite (λ q mine theirs. ¬ IsTold entries q) nodes
+IsLeftVulnerable nodes entries = HasReadWrite (λ q mine theirs. ¬ IsTold entries q) nodes
 
 -- the level of a node
 abbrev pub level_of : Certificate → ℕ → ℕ

@@ -90,11 +90,11 @@ module _ (set : DraftTree) (opening : TableState) (h : List Instance) (is : IsHi
 
         go : HoldsLook set opening h is j g c → HoldsChange set opening h is i f c →
             EdgeUnder f.v g.v (paths_of set) f.node g.node
-        go (s, inl l) (t, inl k) = inr (inl (asked set opening h is j i g f c s t AsksWriteRead (inl (l, inl k))))
-        go (s, inl l) (t, inr k) = inr (inl (asked set opening h is j i g f c s t AsksWriteRead (inl (l, inr k.0))))
+        go (s, inl l) (t, inl k) = inr (inl (asked set opening h is j i g f c s t (λ q. AsksWriteRead) (inl (l, inl k))))
+        go (s, inl l) (t, inr k) = inr (inl (asked set opening h is j i g f c s t (λ q. AsksWriteRead) (inl (l, inr k.0))))
         go (s, inr (inl l)) (t, inl k) =
             absurd (plain_at set opening h is i f c t k (grow_at set opening h is j g c s (inl l.0)))
-        go (s, inr (inl l)) (t, inr k) = inr (inl (asked set opening h is j i g f c s t AsksWriteRead (inr (l.0, k.0))))
+        go (s, inr (inl l)) (t, inr k) = inr (inl (asked set opening h is j i g f c s t (λ q. AsksWriteRead) (inr (l.0, k.0))))
         go (s, inr (inr (inl l))) t = absurd (l.1 (there (grow_at set opening h is j g c s (inr (inl l.0)))))
         go (s, inr (inr (inr l))) t = absurd (l.1 (there (grow_at set opening h is j g c s (inr (inr l.0)))))
 
@@ -103,8 +103,8 @@ module _ (set : DraftTree) (opening : TableState) (h : List Instance) (is : IsHi
     -- an access of the first and one of the second that hold one cell, and ask about a read-write dependency
     abbrev pub AskedReadWrite : Type 0
     AskedReadWrite =
-        (c : Cell) × (t : Holds set opening h is i f c) × (s : Holds set opening h is j g c) × AsksReadWrite
-        (question_of set opening h is i j f g c t s) t.access.kind s.access.kind
+        (c : Cell) × (t : Holds set opening h is i f c) × (s : Holds set opening h is j g c)
+        × AsksReadWrite t.access.kind s.access.kind
 
     pub asked_read_write : ReadWriteBy Cell (start_at h) (Looks set opening h) (Changes set opening h) i j →
         AskedReadWrite
@@ -148,7 +148,7 @@ module _ (set : DraftTree) (opening : TableState) (h : List Instance) (is : IsHi
     edge_of (inl w) = from_write_write w
     edge_of (inr (inl w)) = from_write_read w
     edge_of (inr (inr w)) =
-        let q = asked_read_write w in inl (asked set opening h is i j f g q.0 q.1 q.2 AsksReadWrite q.3)
+        let q = asked_read_write w in inl (asked set opening h is i j f g q.0 q.1 q.2 (λ _. AsksReadWrite) q.3)
 
 pub law_of_static_edges : LawOfStaticEdges
 law_of_static_edges set opening h is i j one other test mine theirs =

@@ -82,7 +82,7 @@ module _ (set : DraftTree) (opening : TableState) (h : List Instance) (is : IsHi
       vulnerable_of w =
           let q = asked_read_write set opening h is i j one other f g w in
           let meet = meets set opening h is i j f g q.0 q.1 q.2 in
-          asked_with set opening h is i j f g q.0 q.1 q.2 AsksReadWrite (IsExposed (paths_of set)) q.3
+          asked_with set opening h is i j f g q.0 q.1 q.2 (λ _. AsksReadWrite) (IsExposed (paths_of set)) q.3
           ((meet.0, meet.1, meet.4), not_covered q.0 q.1 q.2 meet)
 
 pub law_of_vulnerable_edges : LawOfVulnerableEdges

@@ -11,7 +11,7 @@ use Rattle.prog_check.specs.Sound.{IsSound}
 use Rattle.prog_check.specs.Tables.{grows}
 use Rattle.prog_paths.specs.Follows.{Changes, HasRow, Follows}
 use Rattle.prog_paths.specs.Meeting.{Assignment, IsOfI64, MeetAsOwn}
-use Rattle.prog_paths.specs.StaticGraph.{HasQuestion, AsksReadWrite, AsksWriteRead, AsksWriteWrite, IsVulnerable, IsDangerous}
+use Rattle.prog_paths.specs.StaticGraph.{HasQuestion, HasReadWrite, HasWriteRead, AsksWriteWrite, IsVulnerable, IsDangerous}
 use Rattle.history_book.specs.History.{Instance, IsLawful, nth_instance, state_after}
 use Rattle.history_book.specs.Orders.{IsUpTo, IsCycle}
 use Rattle.history_book.specs.Dependencies.{start_at, evaluation_at, read_write, depends}
@@ -19,8 +19,8 @@ use Rattle.history_book.specs.Dependencies.{start_at, evaluation_at, read_write,
 -- a question that gives the edge x to y is met by runs under this pair of assignments, the first of x, the second of y
 abbrev pub EdgeUnder : Assignment → Assignment → List Path → ℕ → ℕ → Type 0
 EdgeUnder v w nodes x y =
-    HasQuestion AsksReadWrite (λ q a b. MeetAsOwn v w a b) nodes x y
-    ⊎ HasQuestion AsksWriteRead (λ q a b. MeetAsOwn w v a b) nodes y x
+    HasReadWrite (λ q a b. MeetAsOwn v w a b) nodes x y
+    ⊎ HasWriteRead (λ q a b. MeetAsOwn w v a b) nodes y x
     ⊎ HasQuestion AsksWriteWrite (λ q a b. MeetAsOwn v w a b) nodes x y
     ⊎ HasQuestion AsksWriteWrite (λ q a b. MeetAsOwn w v a b) nodes y x
 

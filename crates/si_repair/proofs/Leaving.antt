@@ -43,7 +43,7 @@ module _ (paths : List Path) (entries : List Entry) (q : QuestionNumbers) (mine 
   meets asked is (Covered m t chains) all_told r none = r.can_meet
   meets asked is (Exposed sample) all_told r none = (mine_of sample, theirs_of sample, r.meets)
 
-  exposed : (asked : Question) → numbers_of asked ≡ q → (v : Verdict) → ((x : Entry) → Contains (told_by asked v) x → Contains entries x) → IsRightOf paths q mine theirs v → AsksReadWrite q mine.kind theirs.kind → (IsTold entries q → ⊥) → IsExposed paths q mine theirs
+  exposed : (asked : Question) → numbers_of asked ≡ q → (v : Verdict) → ((x : Entry) → Contains (told_by asked v) x → Contains entries x) → IsRightOf paths q mine theirs v → AsksReadWrite mine.kind theirs.kind → (IsTold entries q → ⊥) → IsExposed paths q mine theirs
   exposed asked is (Apart chain) all_told r asks none =
       let e = entry_with (told_question asked) (reason.TheVariants.Apart chain) in
       absurd (none (e, all_told e (just_one e), is))
@@ -89,7 +89,7 @@ module _ (t : Table) (paths : List Path) (s : StandsFor t paths) where
       let j = judged q mine theirs of_question asks in
       meets paths (told_of t.entries) q mine theirs j.asked j.is j.verdict j.all_told (j.right mine theirs of_question) none
 
-  left_exposed : (q : QuestionNumbers) (mine theirs : Access) → AsksOf paths q mine theirs → AsksReadWrite q mine.kind theirs.kind → (IsTold (told_of t.entries) q → ⊥) → IsExposed paths q mine theirs
+  left_exposed : (q : QuestionNumbers) (mine theirs : Access) → AsksOf paths q mine theirs → AsksReadWrite mine.kind theirs.kind → (IsTold (told_of t.entries) q → ⊥) → IsExposed paths q mine theirs
   left_exposed q mine theirs of_question asks none =
       let j = judged q mine theirs of_question (inl asks) in
       exposed paths (told_of t.entries) q mine theirs j.asked j.is j.verdict j.all_told (j.right mine theirs of_question) asks none
@@ -111,7 +111,7 @@ module _ (t : Table) (paths : List Path) (s : StandsFor t paths) where
   static-from_left = EdgeOf-weaker Free Meets paths left_meets
 
   pub vulnerable-from_left : (x y : ℕ) → IsLeftVulnerable paths (told_of t.entries) x y → IsVulnerable paths x y
-  vulnerable-from_left = HasQuestion-weaker AsksReadWrite Untold (IsExposed paths) paths left_exposed
+  vulnerable-from_left = HasQuestion-weaker (λ q. AsksReadWrite) Untold (IsExposed paths) paths left_exposed
 
 -- ---- nodes of edges
 
@@ -120,4 +120,4 @@ edge_inside paths = EdgeOf-inside Meets paths
 
 -- a vulnerable edge is an edge
 pub static-from_vulnerable : (paths : List Path) (x y : ℕ) → IsVulnerable paths x y → StaticEdge paths x y
-static-from_vulnerable paths x y h = inl (HasQuestion-weaker AsksReadWrite (IsExposed paths) Meets paths (λ q mine theirs asked asks exposed. exposed.0) x y h)
+static-from_vulnerable paths x y h = inl (HasQuestion-weaker (λ q. AsksReadWrite) (IsExposed paths) Meets paths (λ q mine theirs asked asks exposed. exposed.0) x y h)

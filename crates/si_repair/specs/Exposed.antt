@@ -64,7 +64,7 @@ pub record ArePlacesOfPair (nodes : List Path) (pair : Pair) (reads changes : Li
 -- both use one table, and the first may miss what the second changes
 pub record MayMiss (first second : Placed) : Type 0 where
   pub table : first.access.table ≡ second.access.table
-  pub kinds : AsksReadWrite (numbers_of (question_between first second)) first.access.kind second.access.kind
+  pub kinds : AsksReadWrite first.access.kind second.access.kind
 
 -- the first may miss what the second changes, the two can meet, and no two accesses cover them
 pub record IsExposedTo (nodes : List Path) (first second : Placed) : Type 0 where

@@ -28,7 +28,7 @@ use Rattle.si_repair.specs.declared.finding.Finding.TheVariants.{Robust, Refused
 -- the accesses never meet, or a pair of single cells covers what may be a read-write dependency
 abbrev pub IsHarmless : List Path → graph.QuestionNumbers → Access → Access → Type 0
 IsHarmless nodes q mine theirs =
-    (CanMeet mine theirs → ⊥) ⊎ (AsksReadWrite q mine.kind theirs.kind × IsCovered nodes q.x q.y mine theirs)
+    (CanMeet mine theirs → ⊥) ⊎ (AsksReadWrite mine.kind theirs.kind × IsCovered nodes q.x q.y mine theirs)
 
 -- a set asks no more questions than an analysis answers
 abbrev pub AsksFew : DraftTree → Type 0

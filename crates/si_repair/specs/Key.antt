@@ -14,7 +14,7 @@ use Rattle.prog_paths.specs.Questions.{numbers_of}
 -- the two accesses are those of a question whose first may miss what its second changes
 pub record AreMissed (nodes : List Path) (q : Question) (mine theirs : Access) : Type 0 where
   pub asked : AsksOf nodes (numbers_of q) mine theirs
-  pub kinds : AsksReadWrite (numbers_of q) mine.kind theirs.kind
+  pub kinds : AsksReadWrite mine.kind theirs.kind
 
 -- some accesses are
 abbrev pub IsMissed : List Path → Question → Type 0

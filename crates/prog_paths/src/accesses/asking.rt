@@ -2,14 +2,14 @@
 ghost use Rattle.std.specs.Prelude.{◌≡◌, ◌↔◌, IsTrue};
 ghost use Rattle.prog_paths.specs.Questions.{asks_read_write, asks_write_read, both_write};
 ghost use Rattle.prog_paths.specs.Meeting.{MayTouch, MayCover};
-ghost use Rattle.prog_paths.specs.StaticGraph.{QuestionNumbers, AsksReadWrite};
+ghost use Rattle.prog_paths.specs.StaticGraph.{AsksReadWrite};
 
 use prog_check::{Access, Kind};
 
 /// Whether the first may miss what the second changes.
 pub fn asks_read_write(mine: Kind, theirs: Kind) -> bool
     ensures test { result ≡ asks_read_write mine theirs }
-    ensures asks { (q : QuestionNumbers) → IsTrue result ↔ AsksReadWrite q mine theirs }
+    ensures asks { IsTrue result ↔ AsksReadWrite mine theirs }
 {
     match mine {
         Kind::Reads => matches!(theirs, Kind::Writes | Kind::Adds),

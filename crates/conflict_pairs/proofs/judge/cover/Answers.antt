@@ -8,13 +8,13 @@ pub returns-then-asks_read_write-clause-some : goal.returns-then-asks_read_write
 returns-then-asks_read_write-clause-some c =
     IfSome_then c.least_cover.result c.least_cover.ensures.some (λ p h. record {
       consistent = c.consistent.ensures.consistent.0 c.if-consistent.true;
-      asks = λ q. (c.asks_read_write.ensures.asks q).0 c.if-asks_read_write.true;
+      asks = c.asks_read_write.ensures.asks.0 c.if-asks_read_write.true;
       first = h;
     })
 
 pub returns-else-consistent-clause-none : goal.returns-else-consistent-clause-none
 returns-else-consistent-clause-none c =
-    λ k q asks m t h. elim c.else-consistent.branch [
-      | else-consistent-via-then-consistent+else-asks_read_write w ↦ false≢true (sym w.if-asks_read_write.false ∙ (w.asks_read_write.ensures.asks q).1 asks)
+    λ k asks m t h. elim c.else-consistent.branch [
+      | else-consistent-via-then-consistent+else-asks_read_write w ↦ false≢true (sym w.if-asks_read_write.false ∙ w.asks_read_write.ensures.asks.1 asks)
       | else-consistent-via-else-consistent w ↦ false≢true (sym w.if-consistent.false ∙ c.consistent.ensures.consistent.1 k)
     ]
