@@ -1,10 +1,10 @@
--- On a draft's paths each access that changes or keeps is of a single cell.
+-- On a draft's paths each access that changes or keeps is of a single cell, so the second access of a question is.
 use Rattle.std.specs.Prelude.{◌≡◌, ℕ, ◌+◌, Bool, List, [], ◌∷◌, ◌++◌, map, Some, slice_get}
 use Rattle.std.specs.List.{AllByRecursion}
 use Rattle.std.proofs.lemmas.Option.{slice_get-get_or}
 use Rattle.std.proofs.Common.{get_or, refl, subst, inl, inr, suc, zero}
 use Rattle.prog_tree.specs.declared.table.TableDecl.{TableDecl}
-use Rattle.prog_tree.specs.Syntax.{Name, KeyTree, One, Two, StatementTree, ProgramTree}
+use Rattle.prog_tree.specs.Syntax.{Name, KeyTree, One, Two, StatementTree, ProgramTree, DraftTree}
 use Rattle.prog_tree.specs.Syntax as s
 use Rattle.prog_check.specs.declared.path.Kind.{Kind}
 use Rattle.prog_check.specs.declared.path.Kind.TheVariants.{Reads}
@@ -13,8 +13,8 @@ use Rattle.prog_check.specs.declared.path.Path.{Path}
 use Rattle.prog_check.specs.Accesses.{Columns, key_columns, range_columns, columns_of, next_unknown, kinds_at, access_of, accesses_of}
 use Rattle.prog_check.specs.Paths.{Passed, Route, accesses_along, path_of, routes, program_paths, paths_from, paths_of}
 use Rattle.prog_paths.specs.Meeting.{MayTouch, IsSingle, IsSingleSecond}
-use Rattle.prog_paths.specs.Facts.{LawOfSingleCells}
-use Rattle.prog_paths.specs.Listing.{LawOfSingleChanges}
+use Rattle.prog_paths.specs.StaticGraph.{IsAccessOf}
+use Rattle.prog_paths.specs.Questions.{LawOfSingleChanges}
 
 abbrev TouchesSingly : Access → Type 0
 TouchesSingly a = MayTouch a → IsSingle a
@@ -87,7 +87,7 @@ paths-single tables program (p ∷ ps) =
     all-append HasSingleCovers (program_paths tables program p) (paths_from tables (program + 1) ps)
     (routes-single tables program p.params (routes 0 p.body)) (paths-single tables (program + 1) ps)
 
-pub law_of_single_cells : LawOfSingleCells
+pub law_of_single_cells : (draft : DraftTree) (x a : ℕ) (access : Access) → IsAccessOf (paths_of draft) x a access → MayTouch access → IsSingle access
 law_of_single_cells draft x a access (path, is, got) =
     all-at TouchesSingly path.accesses (all-at HasSingleCovers (paths_of draft) (paths-single draft.tables 0 draft.programs) x path is) a access got
 

@@ -1,5 +1,5 @@
 -- The facts of a question, and the laws on them: assignments meet them just where the two accesses meet.
-use Rattle.std.specs.Prelude.{◌≡◌, ◌↔◌, ℕ, List, [], ◌∷◌, ◌++◌, pos, Option, Some, None}
+use Rattle.std.specs.Prelude.{◌≡◌, ◌↔◌, List, [], ◌∷◌, ◌++◌, pos, Option, Some, None}
 use Rattle.order_facts.specs.declared.steps.Node.{Node}
 use Rattle.order_facts.specs.declared.steps.Node.TheVariants.{Mine, MineUnknown, Theirs, TheirsUnknown, Number}
 use Rattle.order_facts.specs.declared.steps.Fact.{Fact}
@@ -9,10 +9,7 @@ use Rattle.prog_check.specs.declared.path.Term.TheVariants.{Param, Literal, Unkn
 use Rattle.prog_check.specs.declared.path.Column.{Column}
 use Rattle.prog_check.specs.declared.path.Access.{Access}
 use Rattle.prog_check.specs.Accesses.{single}
-use Rattle.prog_check.specs.Paths.{paths_of}
-use Rattle.prog_tree.specs.Syntax.{DraftTree}
-use Rattle.prog_paths.specs.Meeting.{Assignment, number_under, Meet, MeetsUnder, CanMeet, MayTouch, IsSingle}
-use Rattle.prog_paths.specs.StaticGraph.{IsAccessOf}
+use Rattle.prog_paths.specs.Meeting.{Assignment, number_under, Meet, MeetsUnder, CanMeet, IsSingle}
 
 -- ---- facts
 
@@ -83,9 +80,3 @@ abbrev pub LawOfEqualTerms : Type 0
 LawOfEqualTerms =
     (mine theirs : Access) → mine.table ≡ theirs.table → IsSingle theirs
     → (s t : Term) → EntailsEqual mine theirs s t ↔ AreEqualWhereTheyMeet mine theirs s t
-
--- on a draft's paths each access that changes or keeps is of a single cell, so the second access of a question is
-abbrev pub LawOfSingleCells : Type 0
-LawOfSingleCells =
-    (draft : DraftTree) (x a : ℕ) (access : Access)
-    → IsAccessOf (paths_of draft) x a access → MayTouch access → IsSingle access

@@ -1,12 +1,10 @@
 -- The laws of the list of questions: it has each once, in order, and may be asked of the paths of a set.
 use Rattle.std.specs.Prelude.{◌≡◌, ◌↔◌, ℕ, ◌<◌, ◌⊎◌, List, [], ◌∷◌, All, Contains}
-use Rattle.prog_tree.specs.Syntax.{DraftTree}
-use Rattle.prog_check.specs.Paths.{paths_of}
 use Rattle.prog_check.specs.declared.path.Access.{Access}
 use Rattle.prog_check.specs.declared.path.Path.{Path}
 use Rattle.prog_paths.specs.StaticGraph.{QuestionNumbers, AsksOf}
 use Rattle.prog_paths.specs.declared.accesses.places.Question.{Question}
-use Rattle.prog_paths.specs.Questions.{Asks, ChangesSingleCells, numbers_of, questions_of}
+use Rattle.prog_paths.specs.Questions.{Asks, numbers_of, questions_of}
 
 -- a question of the paths, with the kinds of its accesses
 pub record IsAskedOf (paths : List Path) (q : Question) : Type 0 where
@@ -43,9 +41,3 @@ LawOfListing = (paths : List Path) (q : Question) → Contains (questions_of pat
 -- the list rises
 abbrev pub LawOfOrder : Type 0
 LawOfOrder = (paths : List Path) → RiseBy numbers_of (questions_of paths)
-
--- ---- paths of a draft
-
--- what a path of a draft changes or keeps is one cell each time, so the paths of a set may be asked for their pairs
-abbrev pub LawOfSingleChanges : Type 0
-LawOfSingleChanges = (draft : DraftTree) → All ChangesSingleCells (paths_of draft)

@@ -1,5 +1,7 @@
 -- Which questions a list of paths asks, and of what.
 use Rattle.std.specs.Prelude.{ℕ, ◌+◌, List, [], ◌∷◌, ◌++◌, ◌⊎◌, All, Bool, true, false, ◌||◌, ◌&&◌, ◌==◌, nat_lt, nat_le, if◌then◌else◌}
+use Rattle.prog_tree.specs.Syntax.{DraftTree}
+use Rattle.prog_check.specs.Paths.{paths_of}
 use Rattle.prog_check.specs.declared.path.Kind.{Kind}
 use Rattle.prog_check.specs.declared.path.Kind.TheVariants.{Reads, Sees, Lacks, Writes, Adds}
 use Rattle.prog_check.specs.declared.path.Access.{Access}
@@ -20,9 +22,13 @@ pub record IsQuestion (nodes : List Path) (q : QuestionNumbers) : Type 0 where
   pub asked : AsksOf nodes q mine theirs
   pub asks : Asks q mine.kind theirs.kind
 
--- what a path changes or keeps is one cell each time, as it is on the paths of a checked set
+-- what a path changes or keeps is one cell each time
 abbrev pub ChangesSingleCells : Path → Type 0
 ChangesSingleCells path = All (λ a. MayTouch a → IsSingle a) path.accesses
+
+-- so it is on the paths of a draft, which may be asked for their pairs
+abbrev pub LawOfSingleChanges : Type 0
+LawOfSingleChanges = (draft : DraftTree) → All ChangesSingleCells (paths_of draft)
 
 -- ---- a question between two paths
 

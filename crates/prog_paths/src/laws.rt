@@ -1,8 +1,9 @@
 //! The laws of paths and of questions, as functions that a check has to prove.
 ghost use Rattle.prog_paths.specs.Law.{LawOfPaths};
-ghost use Rattle.prog_paths.specs.Listing.{LawOfListing, LawOfOrder, LawOfSingleChanges};
+ghost use Rattle.prog_paths.specs.Listing.{LawOfListing, LawOfOrder};
+ghost use Rattle.prog_paths.specs.Questions.{LawOfSingleChanges};
 ghost use Rattle.prog_paths.specs.Own.{LawOfOwnUnknowns, LawOfCovers, LawOfTimes, LawOfValues};
-ghost use Rattle.prog_paths.specs.Facts.{LawOfMeeting, LawOfQuestions, LawOfEqualTerms, LawOfSingleCells};
+ghost use Rattle.prog_paths.specs.Facts.{LawOfMeeting, LawOfQuestions, LawOfEqualTerms};
 
 /// Each evaluation that ends Ready follows exactly one committing path.
 pub fn law_of_paths()
@@ -15,7 +16,6 @@ pub fn law_of_questions()
     ensures meeting { LawOfMeeting }
     ensures consistent { LawOfQuestions }
     ensures equal { LawOfEqualTerms }
-    ensures single { LawOfSingleCells }
 {}
 
 /// The list of questions has all that the paths ask, each once, in order.

@@ -1,5 +1,4 @@
 use Rattle.prog_paths.proofs.Facts.{law_of_meeting, law_of_questions, law_of_equal_terms}
-use Rattle.prog_paths.proofs.SingleCells.{law_of_single_cells}
 use Rattle.prog_paths.proofs.laws.law_of_questions.Goals as goal
 
 pub returns-clause-meeting : goal.returns-clause-meeting
@@ -10,6 +9,3 @@ returns-clause-consistent c = law_of_questions
 
 pub returns-clause-equal : goal.returns-clause-equal
 returns-clause-equal c = law_of_equal_terms
-
-pub returns-clause-single : goal.returns-clause-single
-returns-clause-single c = law_of_single_cells
