@@ -2,7 +2,7 @@
 
 use conflict_pairs::law_of_verdicts;
 use prog_paths::{
-    law_of_listing, law_of_own_unknowns, law_of_paths, law_of_questions, law_of_single_changes,
+    law_of_facts, law_of_listing, law_of_own_unknowns, law_of_paths, law_of_single_changes,
 };
 use repair_laws::{
     law_of_as_many_questions, law_of_edges_kept, law_of_materialising, law_of_meaning,
@@ -14,7 +14,7 @@ use robust_cert::law_of_acceptance;
 #[test]
 fn laws_of_paths_are_called() {
     law_of_paths();
-    law_of_questions();
+    law_of_facts();
     law_of_listing();
     law_of_single_changes();
     law_of_own_unknowns();

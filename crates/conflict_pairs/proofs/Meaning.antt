@@ -13,7 +13,7 @@ use Rattle.prog_paths.specs.Meeting.{MeetsUnder, CanMeet, MayTouch}
 use Rattle.prog_paths.specs.StaticGraph.{AsksOf, IsAccessOf, IsCovered}
 use Rattle.prog_paths.specs.Facts.{question_facts}
 use Rattle.prog_paths.specs.Shown.{Falls}
-use Rattle.prog_paths.proofs.Facts.{law_of_meeting, law_of_questions}
+use Rattle.prog_paths.proofs.Facts.{law_of_meeting, law_of_consistency}
 use Rattle.prog_paths.specs.Questions.{IsQuestion, ChangesSingleCells, two, between}
 use Rattle.conflict_pairs.specs.declared.verdicts.Verdict.{Verdict}
 use Rattle.conflict_pairs.specs.declared.verdicts.Verdict.TheVariants.{Apart, Covered, Exposed}
@@ -55,7 +55,7 @@ module _ (x y : Path) (a b : ℕ) (mine theirs : Access) (pair : IsPair mine the
   }
 
   can_meet : facts.IsConsistent own_facts → CanMeet mine theirs
-  can_meet k = (law_of_questions mine theirs pair.table pair.single).0 k
+  can_meet k = (law_of_consistency mine theirs pair.table pair.single).0 k
 
   covered-right : (m t : ℕ) (chains : List (List Node)) → IsCoverFound own_facts mine.kind theirs.kind x.accesses y.accesses m t → ShowEqualAt own_facts x.accesses y.accesses m t chains → All (IsShortest own_facts) chains → IsCoveredBy (two x y) (between a b) mine theirs m t chains
   unfolding IsCovered-from_CoversAt
@@ -98,7 +98,7 @@ module _ (x y : Path) (a b : ℕ) (mine theirs : Access) (pair : IsPair mine the
   exposed-open : IsLeftOpen x.accesses y.accesses mine theirs ↔ IsExposedQuestion (two x y) (between a b) mine theirs
   exposed-open = (
     λ h. (can_meet h.0, λ asks c. h.1 h.0 asks c.first c.second (CoversAt-from_IsCovered (can_meet h.0) c)),
-    λ h. ((law_of_questions mine theirs pair.table pair.single).1 h.0, λ k asks m t covers. h.1 asks (IsCovered-from_CoversAt m t covers)),
+    λ h. ((law_of_consistency mine theirs pair.table pair.single).1 h.0, λ k asks m t covers. h.1 asks (IsCovered-from_CoversAt m t covers)),
   )
 
 -- the accesses of a question between two paths

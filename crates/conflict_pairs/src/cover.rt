@@ -5,7 +5,7 @@ ghost use Rattle.prog_check.specs.declared.path.Access.{Access};
 ghost use Rattle.prog_check.specs.declared.path.Term.{Term};
 ghost use Rattle.prog_paths.specs.Kinds.{option_items};
 ghost use Rattle.prog_paths.specs.Facts.{mine_node, their_node};
-ghost use Rattle.prog_paths.specs.Shown.{Runs, ShowEqual, second_pair, key_pairs};
+ghost use Rattle.prog_paths.specs.Shown.{Runs, ShowEqual, second_terms, key_pairs};
 ghost use Rattle.prog_paths.specs.Shown.{AllEqual, CoversBy};
 ghost use Rattle.conflict_pairs.specs.Verdicts.{IsShortest};
 ghost use Rattle.conflict_pairs.specs.Search.{CoversAt, CoversFirst};
@@ -25,7 +25,7 @@ fn is_equal(closed: &Closed, mine: Term, theirs: Term) -> bool
 }
 
 fn is_equal_second(closed: &Closed, mine: Option<Column>, theirs: Option<Column>) -> bool
-    ensures { IsTrue result ↔ AllEqual closed.now (second_pair mine theirs) }
+    ensures { IsTrue result ↔ AllEqual closed.now (second_terms mine theirs) }
 {
     match second_terms(mine, theirs) {
         Some((mine, theirs)) => is_equal(closed, mine, theirs),

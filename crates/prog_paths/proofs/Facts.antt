@@ -12,7 +12,7 @@ use Rattle.prog_check.specs.declared.path.Term.TheVariants.{Param, Literal, Unkn
 use Rattle.prog_check.specs.declared.path.Column.{Column}
 use Rattle.prog_check.specs.declared.path.Access.{Access}
 use Rattle.prog_paths.specs.Meeting.{Assignment, MeetsUnder, CanMeet, Meet, number_under, second_under, IsSingle, IsSingleSecond, IsWithin, IsWithinSecond}
-use Rattle.prog_paths.specs.Facts.{mine_node, their_node, column_facts, column_or_zero, second_facts, question_facts, both, LawOfMeeting, LawOfQuestions, EntailsEqual, LawOfEqualTerms}
+use Rattle.prog_paths.specs.Facts.{mine_node, their_node, column_facts, column_or_zero, second_facts, question_facts, both, LawOfMeeting, LawOfConsistency, EntailsEqual, LawOfEqualTerms}
 
 -- ---- terms
 
@@ -125,8 +125,8 @@ of_mine u = record { parameter = u.mine; unknown = u.mine_unknown }
 abbrev of_theirs : facts.Assignment → Assignment
 of_theirs u = record { parameter = u.theirs; unknown = u.theirs_unknown }
 
-pub law_of_questions : LawOfQuestions
-law_of_questions mine theirs table single = (can-meet, consistent)
+pub law_of_consistency : LawOfConsistency
+law_of_consistency mine theirs table single = (can-meet, consistent)
   where
     can-meet : facts.IsConsistent (question_facts mine theirs) → CanMeet mine theirs
     can-meet c = (

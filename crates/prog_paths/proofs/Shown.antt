@@ -17,9 +17,9 @@ use Rattle.prog_check.specs.declared.path.Path.{Path}
 use Rattle.prog_paths.specs.Meeting.{Assignment, MeetsUnder, CanMeet, MayTouch, MayCover, IsSingle, AreSameCell, second_under}
 use Rattle.prog_paths.specs.StaticGraph.{QuestionNumbers}
 use Rattle.prog_paths.specs.Facts.{question_facts, AreEqualWhereTheyMeet, EntailsEqual}
-use Rattle.prog_paths.proofs.Facts.{law_of_questions, law_of_equal_terms}
+use Rattle.prog_paths.proofs.Facts.{law_of_consistency, law_of_equal_terms}
 use Rattle.prog_paths.specs.Questions.{Asks, ChangesSingleCells}
-use Rattle.prog_paths.specs.Shown.{Falls, second_pair}
+use Rattle.prog_paths.specs.Shown.{Falls, second_terms}
 use Rattle.prog_paths.specs.Shown.{AllEqual, CoversBy}
 
 -- ---- a chain that falls
@@ -39,7 +39,7 @@ pub record IsPair (mine theirs : Access) : Type 0 where
 
 module _ (mine theirs : Access) (pair : IsPair mine theirs) where
   pub apart-from_Falls : (chain : List Node) → Falls (question_facts mine theirs) chain → CanMeet mine theirs → ⊥
-  apart-from_Falls chain f m = no_way-from_Falls (question_facts mine theirs) chain f ((law_of_questions mine theirs pair.table pair.single).1 m)
+  apart-from_Falls chain f m = no_way-from_Falls (question_facts mine theirs) chain f ((law_of_consistency mine theirs pair.table pair.single).1 m)
 
   -- ---- cells that the facts put at one
 
@@ -49,13 +49,13 @@ module _ (mine theirs : Access) (pair : IsPair mine theirs) where
   pub terms-equal : (s t : Term) → AreEqualWhereTheyMeet mine theirs s t → EntailsEqual mine theirs s t
   terms-equal s t = (law_of_equal_terms mine theirs pair.table pair.single s t).1
 
-  pub second-same : (s t : Option Column) → AllEqual (question_facts mine theirs) (second_pair s t) → (v w : Assignment) → MeetsUnder v w mine theirs → second_under v s ≡ second_under w t
+  pub second-same : (s t : Option Column) → AllEqual (question_facts mine theirs) (second_terms s t) → (v w : Assignment) → MeetsUnder v w mine theirs → second_under v s ≡ second_under w t
   second-same None None e v w m = refl
   second-same None (Some t) e v w m = terms-same (Literal (pos 0)) t.low e.0 v w m
   second-same (Some s) None e v w m = terms-same s.low (Literal (pos 0)) e.0 v w m
   second-same (Some s) (Some t) e v w m = terms-same s.low t.low e.0 v w m
 
-  pub second-equal : (s t : Option Column) → ((v w : Assignment) → MeetsUnder v w mine theirs → second_under v s ≡ second_under w t) → AllEqual (question_facts mine theirs) (second_pair s t)
+  pub second-equal : (s t : Option Column) → ((v w : Assignment) → MeetsUnder v w mine theirs → second_under v s ≡ second_under w t) → AllEqual (question_facts mine theirs) (second_terms s t)
   second-equal None None h = tt
   second-equal None (Some t) h = (terms-equal (Literal (pos 0)) t.low h, tt)
   second-equal (Some s) None h = (terms-equal s.low (Literal (pos 0)) h, tt)

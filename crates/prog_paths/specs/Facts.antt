@@ -60,8 +60,8 @@ LawOfMeeting =
     → (v w : Assignment) → facts.Meets (both v w) (question_facts mine theirs) ↔ Meet v mine w theirs
 
 -- an access and a single cell of its table can meet just where the facts of their question are consistent
-abbrev pub LawOfQuestions : Type 0
-LawOfQuestions =
+abbrev pub LawOfConsistency : Type 0
+LawOfConsistency =
     (mine theirs : Access) → mine.table ≡ theirs.table → IsSingle theirs
     → facts.IsConsistent (question_facts mine theirs) ↔ CanMeet mine theirs
 

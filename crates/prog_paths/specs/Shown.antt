@@ -26,15 +26,15 @@ pub record Falls (facts : List Fact) (chain : List Node) : Type 0 where
 abbrev pub Runs : List Fact → Node → Node → List Node → Type 0
 Runs facts from to chain = IsChain facts chain × RunsBetween from to chain
 
--- the second columns of two cells, where their table has one
-abbrev pub second_pair : Option Column → Option Column → List (Term × Term)
-second_pair None None = []
-second_pair None (Some theirs) = ((column_or_zero None).low, theirs.low) ∷ []
-second_pair (Some mine) theirs = (mine.low, (column_or_zero theirs).low) ∷ []
+-- the terms of the second columns of two cells, where their table has one
+abbrev pub second_terms : Option Column → Option Column → List (Term × Term)
+second_terms None None = []
+second_terms None (Some theirs) = ((column_or_zero None).low, theirs.low) ∷ []
+second_terms (Some mine) theirs = (mine.low, (column_or_zero theirs).low) ∷ []
 
 -- the terms that two cells have in each key column
 abbrev pub key_pairs : Access → Access → List (Term × Term)
-key_pairs mine theirs = (mine.first.low, theirs.first.low) ∷ second_pair mine.second theirs.second
+key_pairs mine theirs = (mine.first.low, theirs.first.low) ∷ second_terms mine.second theirs.second
 
 -- for each pair of terms a chain runs from mine to theirs, and the next one back
 abbrev pub ShowEqual : List Fact → List (Term × Term) → List (List Node) → Type 0

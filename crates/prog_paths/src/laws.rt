@@ -3,7 +3,7 @@ ghost use Rattle.prog_paths.specs.Law.{LawOfPaths};
 ghost use Rattle.prog_paths.specs.Listing.{LawOfListing, LawOfOrder};
 ghost use Rattle.prog_paths.specs.Questions.{LawOfSingleChanges};
 ghost use Rattle.prog_paths.specs.Own.{LawOfOwnUnknowns, LawOfCovers, LawOfTimes, LawOfValues};
-ghost use Rattle.prog_paths.specs.Facts.{LawOfMeeting, LawOfQuestions, LawOfEqualTerms};
+ghost use Rattle.prog_paths.specs.Facts.{LawOfMeeting, LawOfConsistency, LawOfEqualTerms};
 
 /// Each evaluation that ends Ready follows exactly one committing path.
 pub fn law_of_paths()
@@ -12,9 +12,9 @@ pub fn law_of_paths()
 
 /// The facts of a question are met just where its accesses meet, and put two terms at most each
 /// other just where both are then equal.
-pub fn law_of_questions()
+pub fn law_of_facts()
     ensures meeting { LawOfMeeting }
-    ensures consistent { LawOfQuestions }
+    ensures consistent { LawOfConsistency }
     ensures equal { LawOfEqualTerms }
 {}
 

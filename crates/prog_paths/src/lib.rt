@@ -17,7 +17,7 @@ pub use accesses::facts::{
 pub use accesses::mark::{EdgeTables, Mark, mark_by};
 pub use accesses::places::{Placed, Question, all_places, asks, program_places, question_between};
 pub use laws::{
-    law_of_listing, law_of_own_unknowns, law_of_paths, law_of_questions, law_of_single_changes,
+    law_of_facts, law_of_listing, law_of_own_unknowns, law_of_paths, law_of_single_changes,
 };
 pub use limits::{MAX_COUNTED, MAX_QUESTIONS};
 pub use path::listing::paths;

@@ -14,7 +14,7 @@ use Rattle.prog_check.specs.declared.path.Access.{Access}
 use Rattle.prog_check.specs.declared.path.Path.{Path}
 use Rattle.prog_paths.specs.Few.{IsTermBelow, IsColumnBelow, IsAccessBelow, AreFew}
 use Rattle.prog_paths.specs.Facts.{mine_node, their_node, column_facts, column_or_zero, second_facts, question_facts}
-use Rattle.prog_paths.specs.Shown.{Falls, Runs, ShowEqual, second_pair, key_pairs}
+use Rattle.prog_paths.specs.Shown.{Falls, Runs, ShowEqual, second_terms, key_pairs}
 use Rattle.prog_paths.specs.StaticGraph.{IsAccessOf}
 use Rattle.robust_cert.specs.Ranges.{IsOfSmall}
 use Rattle.si_repair.specs.Certificates.{TightFits}
@@ -97,9 +97,9 @@ module _ (facts : List Fact) (ends : All AreEndsSmall facts) where
 -- ---- accesses
 
 pub pairs-below : (mine theirs : Access) → IsAccessBelow 768 mine → IsAccessBelow 768 theirs → All ArePairBelow (key_pairs mine theirs)
-pairs-below mine theirs m t = All-cons ArePairBelow (mine.first.low, theirs.first.low) (second_pair mine.second theirs.second) (m.0.0, t.0.0) (go mine.second theirs.second m.1 t.1)
+pairs-below mine theirs m t = All-cons ArePairBelow (mine.first.low, theirs.first.low) (second_terms mine.second theirs.second) (m.0.0, t.0.0) (go mine.second theirs.second m.1 t.1)
   where
-    go : (c d : Option Column) → IfSome c (IsColumnBelow 768) → IfSome d (IsColumnBelow 768) → All ArePairBelow (second_pair c d)
+    go : (c d : Option Column) → IfSome c (IsColumnBelow 768) → IfSome d (IsColumnBelow 768) → All ArePairBelow (second_terms c d)
     go None None h k = All-nil ArePairBelow
     go None (Some d) h k = All-cons ArePairBelow (Literal (pos 0), d.low) [] (tt, k.0) (All-nil ArePairBelow)
     go (Some c) None h k = All-cons ArePairBelow (c.low, Literal (pos 0)) [] (h.0, tt) (All-nil ArePairBelow)

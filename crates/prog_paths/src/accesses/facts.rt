@@ -2,7 +2,7 @@
 ghost use Rattle.std.specs.Prelude.{◌≡◌, ◌∷◌, [], IfOk};
 ghost use Rattle.prog_paths.specs.Kinds.{option_items};
 ghost use Rattle.prog_paths.specs.Facts.{mine_node, their_node, column_facts, column_or_zero, question_facts};
-ghost use Rattle.prog_paths.specs.Shown.{second_pair};
+ghost use Rattle.prog_paths.specs.Shown.{second_terms};
 
 use order_facts::{Closed, Fact, Node};
 use prog_check::{Access, Column, Term};
@@ -60,7 +60,7 @@ pub fn column_or_zero(column: Option<Column>) -> Column
 
 /// The terms of the second columns of two cells, where their table has one.
 pub fn second_terms(mine: Option<Column>, theirs: Option<Column>) -> Option<(Term, Term)>
-    ensures { option_items result ≡ second_pair mine theirs }
+    ensures { option_items result ≡ second_terms mine theirs }
 {
     if mine.is_some() || theirs.is_some() {
         Some((column_or_zero(mine).low, column_or_zero(theirs).low))
@@ -107,7 +107,7 @@ fn of_both(first: (Fact, Fact), second: (Fact, Fact)) -> QuestionFacts
 }
 
 /// The facts of the question of an access against a single cell. Assignments meet them just where
-/// the two accesses meet, as `law_of_questions` says.
+/// the two accesses meet, as `law_of_facts` says.
 pub fn question_facts(mine: &Access, theirs: &Access) -> QuestionFacts
     ensures { result ≡ question_facts mine.now theirs.now }
 {
