@@ -5,7 +5,7 @@ use Rattle.std.proofs.lemmas.Option.{same_Some}
 use Rattle.prog_tree.specs.Tree.{draft_tree}
 use Rattle.prog_tree.specs.declared.program.Draft.{Draft}
 use Rattle.prog_check.specs.declared.path.Access.{Access}
-use Rattle.prog_paths.specs.declared.accesses.places.Question.{Question}
+use Rattle.prog_paths.specs.declared.accesses.questions.Question.{Question}
 use Rattle.repair_laws.specs.Refusals.{IsRangeAt}
 use Rattle.analysis_words.specs.Helping.{LooksAtRange}
 use Rattle.analysis_words.specs.Nodes.{access_of, program_of, Sight}

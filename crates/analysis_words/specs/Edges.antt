@@ -1,6 +1,6 @@
 -- What is said of the edges of a dangerous structure.
 use Rattle.std.specs.Prelude.{ℕ, ◌≡◌, true, false, List, ◌++◌, codes}
-use Rattle.prog_paths.specs.declared.accesses.places.Question.{Question}
+use Rattle.prog_paths.specs.declared.accesses.questions.Question.{Question}
 use Rattle.dep_graph.specs.declared.danger.Danger.{Danger}
 use Rattle.dep_graph.specs.declared.danger.Exposure.{Exposure}
 use Rattle.analysis_words.specs.Instances.{instance_text, numbers_along}

@@ -4,7 +4,7 @@ use Rattle.std.specs.Fmt.{decimal}
 use Rattle.text_places.specs.Places.{line_number}
 use Rattle.prog_tree.specs.Tree.{draft_tree}
 use Rattle.prog_check.specs.declared.path.Access.{Access}
-use Rattle.prog_paths.specs.declared.accesses.places.Question.{Question}
+use Rattle.prog_paths.specs.declared.accesses.questions.Question.{Question}
 use Rattle.repair_laws.specs.Refusals.{HasUnknownKey, IsRangeAt}
 use Rattle.analysis_words.specs.Nodes.{access_of, is_in_body, node_name, program_of, HasNoAccess, IsAccessPlace, Sight}
 use Rattle.analysis_words.specs.Quoting.{quoted_cells}

@@ -6,9 +6,9 @@ use Rattle.std.specs.List.{AllZip}
 use Rattle.std.proofs.lemmas.List.Elements.{All-nil, All-cons, All-head, All-tail, All-append}
 use Rattle.prog_check.specs.declared.path.Path.{Path}
 use Rattle.prog_paths.specs.declared.accesses.places.Placed.{Placed}
-use Rattle.prog_paths.specs.declared.accesses.places.Question.{Question}
-use Rattle.prog_paths.specs.Questions.{asks, question_between, all_from, asked_by, asked_among, questions_of}
-use Rattle.prog_paths.specs.Places.{IsAt}
+use Rattle.prog_paths.specs.declared.accesses.questions.Question.{Question}
+use Rattle.prog_paths.specs.Questions.{asks, question_between, asked_by, asked_among, questions_of}
+use Rattle.prog_paths.specs.Places.{IsAt, all_from}
 use Rattle.prog_paths.proofs.Questions.{all_places_stand}
 use Rattle.conflict_pairs.specs.Alike.{IsAsked}
 

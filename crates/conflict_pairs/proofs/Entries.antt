@@ -2,7 +2,7 @@
 use Rattle.std.proofs.Common.{◌≡◌, ℕ, ◌<◌, ◌≤◌, ◌+◌, true, false, List, [], ◌∷◌, ◌++◌, length, get_or, drop, sym, ap, ◌∙◌, append_assoc}
 use Rattle.std.proofs.lemmas.List.{drop_more, drop_all, append-nil}
 use Rattle.prog_paths.specs.declared.accesses.places.Placed.{Placed}
-use Rattle.prog_paths.specs.declared.accesses.places.Question.{Question}
+use Rattle.prog_paths.specs.declared.accesses.questions.Question.{Question}
 use Rattle.prog_paths.specs.Questions.{asks, question_between, asked_by, asked_among}
 use Rattle.prog_paths.specs.Tally.{of_table}
 use Rattle.prog_paths.specs.Changers.{changers_of}

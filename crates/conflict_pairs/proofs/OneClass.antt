@@ -8,8 +8,7 @@ use Rattle.std.proofs.lemmas.Option.{slice_get-get_or, slice_get_within, same_So
 use Rattle.prog_check.specs.declared.path.Access.{Access}
 use Rattle.prog_check.specs.declared.path.Path.{Path}
 use Rattle.prog_paths.specs.declared.accesses.places.Placed.{Placed}
-use Rattle.prog_paths.specs.Questions.{placed_from, all_from}
-use Rattle.prog_paths.specs.Places.{AreAlike, IsAt}
+use Rattle.prog_paths.specs.Places.{AreAlike, IsAt, placed_from, all_from}
 use Rattle.prog_paths.specs.StaticGraph.{IsAccessOf}
 use Rattle.prog_paths.proofs.Questions.{placed, all_places_stand}
 use Rattle.conflict_pairs.specs.Alike.{AreCoverClasses, HasAccess}

@@ -7,10 +7,10 @@ use Rattle.std.proofs.lemmas.List.Elements.{All-cons, All-filter, All-head, All-
 use Rattle.std.proofs.lemmas.Option.{get_or_from_slice_get, slice_get-get_or, slice_get-map, slice_get_within}
 use Rattle.prog_check.specs.declared.path.Path.{Path}
 use Rattle.prog_paths.specs.declared.accesses.places.Placed.{Placed}
-use Rattle.prog_paths.specs.declared.accesses.places.Question.{Question}
-use Rattle.prog_paths.specs.Questions.{all_from, question_between, questions_of}
+use Rattle.prog_paths.specs.declared.accesses.questions.Question.{Question}
+use Rattle.prog_paths.specs.Questions.{question_between, questions_of}
 use Rattle.prog_paths.specs.Changers.{changes, changers_of}
-use Rattle.prog_paths.specs.Places.{IsAt}
+use Rattle.prog_paths.specs.Places.{IsAt, all_from}
 use Rattle.prog_paths.specs.Tally.{of_table}
 use Rattle.prog_paths.proofs.Questions.{all_places_stand}
 use Rattle.conflict_pairs.specs.declared.pairing.PlacePair.{PlacePair}

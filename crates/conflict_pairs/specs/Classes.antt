@@ -2,8 +2,7 @@
 use Rattle.std.specs.Prelude.{◌≡◌, ℕ, ◌+◌, ◌<◌, List, [], ◌∷◌, length, Some, slice_get, slice_index_or}
 use Rattle.prog_check.specs.declared.path.Path.{Path}
 use Rattle.prog_paths.specs.declared.accesses.places.Placed.{Placed}
-use Rattle.prog_paths.specs.Questions.{all_from}
-use Rattle.prog_paths.specs.Places.{AreAlike}
+use Rattle.prog_paths.specs.Places.{AreAlike, all_from}
 use Rattle.conflict_pairs.specs.Alike.{IsLikeAt}
 use Rattle.conflict_pairs.specs.Pairing.{place_at}
 

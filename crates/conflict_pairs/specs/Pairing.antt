@@ -4,8 +4,9 @@ use Rattle.prog_check.specs.declared.path.Kind.TheVariants.{Reads}
 use Rattle.prog_check.specs.declared.path.Path.{Path}
 use Rattle.prog_check.specs.declared.path.Term.TheVariants.{Param}
 use Rattle.prog_paths.specs.declared.accesses.places.Placed.{Placed}
-use Rattle.prog_paths.specs.declared.accesses.places.Question.{Question}
-use Rattle.prog_paths.specs.Questions.{all_from, question_between}
+use Rattle.prog_paths.specs.declared.accesses.questions.Question.{Question}
+use Rattle.prog_paths.specs.Places.{all_from}
+use Rattle.prog_paths.specs.Questions.{question_between}
 use Rattle.conflict_pairs.specs.declared.listing.Questions.{Questions}
 use Rattle.conflict_pairs.specs.declared.pairing.PlacePair.{PlacePair}
 use Rattle.conflict_pairs.specs.declared.verdicts.Verdict.{Verdict}

@@ -5,7 +5,7 @@ use Rattle.prog_check.specs.declared.path.Path.{Path}
 use Rattle.conflict_pairs.specs.declared.sharing.PairVerdicts.{PairVerdicts}
 use Rattle.conflict_pairs.specs.declared.verdicts.Verdict.{Verdict}
 use Rattle.conflict_pairs.specs.declared.verdicts.Verdict.TheVariants.{Apart}
-use Rattle.prog_paths.specs.declared.accesses.places.Question.{Question}
+use Rattle.prog_paths.specs.declared.accesses.questions.Question.{Question}
 use Rattle.prog_paths.specs.Questions.{numbers_of, questions_of}
 use Rattle.prog_paths.specs.Listing.{IsAskedOf}
 use Rattle.conflict_pairs.specs.Verdicts.{IsRight}

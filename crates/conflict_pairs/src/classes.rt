@@ -1,6 +1,6 @@
 //! Classes of accesses: what is said of one is said of each other of its class.
 ghost use Rattle.std.specs.Prelude.{◌≡◌, ◌<◌, length, slice_index_or, IsTrue, All, IfOk};
-ghost use Rattle.prog_paths.specs.Questions.{all_from};
+ghost use Rattle.prog_paths.specs.Places.{all_from};
 ghost use Rattle.conflict_pairs.specs.Alike.{IsLike};
 ghost use Rattle.conflict_pairs.specs.Classes.{HasCoverClass, AreOneClass, AreNumbered, AreLikePlaces};
 ghost use Rattle.conflict_pairs.specs.Pairing.{IsAskedAt, asked_at};

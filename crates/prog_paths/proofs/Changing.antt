@@ -12,7 +12,7 @@ use Rattle.prog_check.specs.declared.path.Kind.{Kind}
 use Rattle.prog_check.specs.declared.path.Kind.TheVariants.{Reads, Sees, Lacks, Writes, Adds, Keeps}
 use Rattle.prog_check.specs.declared.path.Term.TheVariants.{Param}
 use Rattle.prog_paths.specs.declared.accesses.places.Placed.{Placed}
-use Rattle.prog_paths.specs.declared.accesses.places.Question.{Question}
+use Rattle.prog_paths.specs.declared.accesses.questions.Question.{Question}
 use Rattle.prog_paths.specs.Questions.{asks, kinds_depend, both_write, is_in_order, question_between, asked_by}
 use Rattle.prog_paths.specs.Tally.{of_table}
 use Rattle.prog_paths.specs.Changers.{changes, changers_of}

@@ -8,7 +8,7 @@ use Rattle.prog_check.specs.declared.path.Kind.TheVariants.{Reads, Sees, Lacks, 
 use Rattle.prog_check.specs.declared.path.Access.{Access}
 use Rattle.prog_check.specs.declared.path.Path.{Path}
 use Rattle.prog_paths.specs.StaticGraph.{QuestionNumbers, IsAccessOf, AsksOf, AsksReadWrite, AsksWriteRead, AsksWriteWrite, HasQuestion, EdgeOf, HasReadWrite}
-use Rattle.prog_paths.specs.declared.accesses.places.Question.{Question}
+use Rattle.prog_paths.specs.declared.accesses.questions.Question.{Question}
 use Rattle.prog_paths.specs.Questions.{Asks, asks_read_write, asks_write_read, both_write, numbers_of}
 use Rattle.prog_paths.specs.Listing.{IsAskedOf}
 use Rattle.prog_paths.specs.Marks.{mark_by, gives_edge, gives_vulnerable}

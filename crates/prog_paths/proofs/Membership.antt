@@ -9,10 +9,9 @@ use Rattle.prog_check.specs.declared.path.Access.{Access}
 use Rattle.prog_check.specs.declared.path.Path.{Path}
 use Rattle.prog_paths.specs.StaticGraph.{QuestionNumbers, IsInOrder}
 use Rattle.prog_paths.specs.declared.accesses.places.Placed.{Placed}
-use Rattle.prog_paths.specs.declared.accesses.places.Question.{Question}
-use Rattle.prog_paths.specs.Questions.{Asks, asks, kinds_depend, both_write, is_in_order, question_between, placed_from, all_from, asked_by, asked_among, questions_of}
-use Rattle.prog_paths.specs.Questions.{numbers_of}
-use Rattle.prog_paths.specs.Places.{IsAt}
+use Rattle.prog_paths.specs.declared.accesses.questions.Question.{Question}
+use Rattle.prog_paths.specs.Questions.{Asks, asks, kinds_depend, both_write, is_in_order, question_between, asked_by, asked_among, numbers_of, questions_of}
+use Rattle.prog_paths.specs.Places.{IsAt, placed_from, all_from}
 use Rattle.prog_paths.specs.Listing.{IsAskedOf, LawOfListing}
 use Rattle.prog_paths.proofs.Questions.{placed, all_places_stand}
 use Rattle.prog_tree.proofs.Elements.{IsMember, member_from_contains, contains_from_member, member_all, member_left, member_right, member_either}

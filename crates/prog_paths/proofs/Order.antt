@@ -7,8 +7,9 @@ use Rattle.prog_check.specs.declared.path.Access.{Access}
 use Rattle.prog_check.specs.declared.path.Path.{Path}
 use Rattle.prog_paths.specs.StaticGraph.{QuestionNumbers}
 use Rattle.prog_paths.specs.declared.accesses.places.Placed.{Placed}
-use Rattle.prog_paths.specs.declared.accesses.places.Question.{Question}
-use Rattle.prog_paths.specs.Questions.{asks, question_between, placed_from, all_from, asked_by, asked_among, numbers_of}
+use Rattle.prog_paths.specs.declared.accesses.questions.Question.{Question}
+use Rattle.prog_paths.specs.Places.{placed_from, all_from}
+use Rattle.prog_paths.specs.Questions.{asks, question_between, asked_by, asked_among, numbers_of}
 use Rattle.prog_paths.specs.Listing.{IsPlaceBefore, IsBefore, RiseBy, LawOfOrder}
 use Rattle.prog_paths.proofs.Questions.{placed, if_append}
 

@@ -7,9 +7,9 @@ use Rattle.std.proofs.lemmas.List.Elements.{All-nil, All-cons, All-append}
 use Rattle.prog_check.specs.declared.path.Access.{Access}
 use Rattle.prog_check.specs.declared.path.Path.{Path}
 use Rattle.prog_paths.specs.declared.accesses.places.Placed.{Placed}
-use Rattle.prog_paths.specs.declared.accesses.places.Question.{Question}
-use Rattle.prog_paths.specs.Questions.{asks, question_between, placed_from, all_from, accesses_by, program_from, asked_by, asked_among}
-use Rattle.prog_paths.specs.Places.{IsAt}
+use Rattle.prog_paths.specs.declared.accesses.questions.Question.{Question}
+use Rattle.prog_paths.specs.Questions.{asks, question_between, asked_by, asked_among}
+use Rattle.prog_paths.specs.Places.{IsAt, placed_from, all_from, accesses_by, program_from}
 
 -- ---- lists of places
 

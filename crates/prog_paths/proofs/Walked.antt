@@ -9,7 +9,8 @@ use Rattle.prog_check.specs.declared.path.Access.{Access}
 use Rattle.prog_check.specs.declared.path.Path.{Path}
 use Rattle.prog_paths.specs.declared.accesses.places.Placed.{Placed}
 use Rattle.prog_paths.specs.declared.accesses.tally.Tally.{Tally}
-use Rattle.prog_paths.specs.Questions.{placed_from, all_from, asked_by, asked_among}
+use Rattle.prog_paths.specs.Places.{placed_from, all_from}
+use Rattle.prog_paths.specs.Questions.{asked_by, asked_among}
 use Rattle.prog_paths.specs.Limits.{most_questions}
 use Rattle.prog_paths.specs.Tally.{IsTally, of_table, is_behind, is_before, Rises}
 use Rattle.prog_paths.proofs.Questions.{placed}

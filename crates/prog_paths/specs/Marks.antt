@@ -1,7 +1,7 @@
 -- What a question gives: an edge from its first node to its second, one back, a vulnerable one.
 use Rattle.std.specs.Prelude.{ℕ, Bool, ◌||◌, ◌&&◌, ◌==◌}
 use Rattle.order_facts.specs.Square.{Enters}
-use Rattle.prog_paths.specs.declared.accesses.places.Question.{Question}
+use Rattle.prog_paths.specs.declared.accesses.questions.Question.{Question}
 use Rattle.prog_paths.specs.declared.accesses.mark.EdgeTables.{EdgeTables}
 use Rattle.prog_paths.specs.declared.accesses.mark.Mark.{Mark}
 use Rattle.prog_paths.specs.Questions.{asks_read_write, asks_write_read, both_write}

@@ -1,5 +1,5 @@
 -- Which questions a list of paths asks, and of what.
-use Rattle.std.specs.Prelude.{ℕ, ◌+◌, List, [], ◌∷◌, ◌++◌, ◌⊎◌, All, Bool, true, false, ◌||◌, ◌&&◌, ◌==◌, nat_lt, nat_le, if◌then◌else◌}
+use Rattle.std.specs.Prelude.{ℕ, List, [], ◌∷◌, ◌++◌, ◌⊎◌, All, Bool, true, false, ◌||◌, ◌&&◌, ◌==◌, nat_lt, nat_le, if◌then◌else◌}
 use Rattle.prog_tree.specs.Syntax.{DraftTree}
 use Rattle.prog_check.specs.Paths.{paths_of}
 use Rattle.prog_check.specs.declared.path.Kind.{Kind}
@@ -9,7 +9,8 @@ use Rattle.prog_check.specs.declared.path.Path.{Path}
 use Rattle.prog_paths.specs.Meeting.{MayTouch, IsSingle}
 use Rattle.prog_paths.specs.StaticGraph.{QuestionNumbers, AsksOf, AsksReadWrite, AsksWriteRead, AsksWriteWrite}
 use Rattle.prog_paths.specs.declared.accesses.places.Placed.{Placed}
-use Rattle.prog_paths.specs.declared.accesses.places.Question.{Question}
+use Rattle.prog_paths.specs.Places.{all_from}
+use Rattle.prog_paths.specs.declared.accesses.questions.Question.{Question}
 
 -- what the kinds of two accesses ask: whether instances can have some dependency by them
 abbrev pub Asks : QuestionNumbers → Kind → Kind → Type 0
@@ -87,27 +88,6 @@ question_between first second = record {
   mine = first.access.kind;
   theirs = second.access.kind;
 }
-
--- the accesses of a node, numbered from here on
-abbrev pub placed_from : ℕ → ℕ → List Access → List Placed
-placed_from node number [] = []
-placed_from node number (access ∷ rest) =
-    record { node = node; number = number; access = access } ∷ placed_from node (number + 1) rest
-
--- the accesses of all nodes, numbered from here on
-abbrev pub all_from : ℕ → List Path → List Placed
-all_from node [] = []
-all_from node (path ∷ rest) = placed_from node 0 path.accesses ++ all_from (node + 1) rest
-
--- the accesses of a path, where it is one of a program
-abbrev pub accesses_by : ℕ → Path → List Access
-accesses_by program path = if path.program == program then path.accesses else []
-
--- the accesses of the nodes that are paths of a program, numbered from here on
-abbrev pub program_from : (program node : ℕ) → List Path → List Placed
-program_from program node [] = []
-program_from program node (path ∷ rest) =
-    placed_from node 0 (accesses_by program path) ++ program_from program (node + 1) rest
 
 -- what one access asks of each of some
 abbrev pub asked_by : Placed → List Placed → List Question

@@ -7,7 +7,6 @@ mod laws;
 mod limits;
 mod path;
 
-pub use accesses::asking::{asks_read_write, may_cover, may_touch};
 pub use accesses::changers::Changers;
 pub use accesses::count::{is_too_large, question_count};
 pub use accesses::facts::{
@@ -15,7 +14,10 @@ pub use accesses::facts::{
     their_node,
 };
 pub use accesses::mark::{EdgeTables, Mark, mark_by};
-pub use accesses::places::{Placed, Question, all_places, asks, program_places, question_between};
+pub use accesses::places::{Placed, all_places, program_places};
+pub use accesses::questions::{
+    Question, asks, asks_read_write, may_cover, may_touch, question_between,
+};
 pub use laws::{
     law_of_facts, law_of_listing, law_of_own_unknowns, law_of_paths, law_of_single_changes,
 };

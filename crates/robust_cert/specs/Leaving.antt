@@ -3,7 +3,7 @@ use Rattle.std.specs.Prelude.{ℕ, List, length, All, Bool}
 use Rattle.std.specs.List.{list_any}
 use Rattle.prog_check.specs.declared.path.Path.{Path}
 use Rattle.prog_paths.specs.StaticGraph.{QuestionNumbers}
-use Rattle.prog_paths.specs.declared.accesses.places.Question.{Question}
+use Rattle.prog_paths.specs.declared.accesses.questions.Question.{Question}
 use Rattle.prog_paths.specs.Questions.{numbers_of, questions_of}
 use Rattle.prog_paths.specs.Listing.{IsBefore, RiseBy}
 use Rattle.prog_paths.specs.declared.accesses.mark.EdgeTables.{EdgeTables}

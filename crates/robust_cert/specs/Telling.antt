@@ -1,7 +1,7 @@
 -- What the entries tell of a question, and what that leaves.
 use Rattle.std.specs.Prelude.{◌≡◌, ℕ, ◌<◌, List, [], ◌∷◌, Bool, true, false, ◌&&◌, ◌==◌, if◌then◌else◌, Some, slice_get}
 use Rattle.prog_paths.specs.StaticGraph.{QuestionNumbers}
-use Rattle.prog_paths.specs.declared.accesses.places.Question.{Question}
+use Rattle.prog_paths.specs.declared.accesses.questions.Question.{Question}
 use Rattle.prog_paths.specs.Questions.{numbers_of}
 use Rattle.prog_paths.specs.Listing.{IsBefore}
 use Rattle.prog_paths.specs.Marks.{mark_by}

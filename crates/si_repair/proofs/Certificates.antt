@@ -7,7 +7,7 @@ use Rattle.order_facts.specs.declared.steps.Fact.{Fact}
 use Rattle.prog_check.specs.declared.path.Path.{Path}
 use Rattle.prog_check.specs.declared.path.Term.{Term}
 use Rattle.prog_paths.specs.StaticGraph.{QuestionNumbers, IsAccessOf}
-use Rattle.prog_paths.specs.declared.accesses.places.Question.{Question}
+use Rattle.prog_paths.specs.declared.accesses.questions.Question.{Question}
 use Rattle.prog_paths.specs.Questions.{IsQuestion, numbers_of, questions_of}
 use Rattle.prog_paths.specs.Listing.{IsAskedOf, IsBefore, RiseBy}
 use Rattle.prog_paths.specs.Shown.{ShowEqual, key_pairs}

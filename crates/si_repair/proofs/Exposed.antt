@@ -9,9 +9,9 @@ use Rattle.prog_check.specs.declared.path.Access.{Access}
 use Rattle.prog_check.specs.declared.path.Path.{Path}
 use Rattle.prog_paths.specs.StaticGraph.{IsAccessOf, AsksOf}
 use Rattle.prog_paths.specs.declared.accesses.places.Placed.{Placed}
-use Rattle.prog_paths.specs.declared.accesses.places.Question.{Question}
-use Rattle.prog_paths.specs.Questions.{asks, numbers_of, question_between, placed_from, all_from, accesses_by, program_from, asked_by, asked_among, questions_of}
-use Rattle.prog_paths.specs.Places.{IsAt}
+use Rattle.prog_paths.specs.declared.accesses.questions.Question.{Question}
+use Rattle.prog_paths.specs.Questions.{asks, numbers_of, question_between, asked_by, asked_among, questions_of}
+use Rattle.prog_paths.specs.Places.{IsAt, placed_from, all_from, accesses_by, program_from}
 use Rattle.prog_paths.proofs.Questions.{placed, all_places_stand, if_yes, asked_by-append, asked_among-append}
 use Rattle.prog_tree.proofs.Elements.{IsMember, contains_from_member, member_left, member_right}
 use Rattle.prog_paths.proofs.Membership.{asks-from_Asks, in_node}

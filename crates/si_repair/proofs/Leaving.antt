@@ -6,7 +6,7 @@ use Rattle.prog_check.specs.declared.path.Access.{Access}
 use Rattle.prog_check.specs.declared.path.Path.{Path}
 use Rattle.prog_paths.specs.Meeting.{CanMeet}
 use Rattle.prog_paths.specs.StaticGraph.{QuestionNumbers, AsksOf, AsksReadWrite, StaticEdge, IsExposed, IsVulnerable}
-use Rattle.prog_paths.specs.declared.accesses.places.Question.{Question}
+use Rattle.prog_paths.specs.declared.accesses.questions.Question.{Question}
 use Rattle.prog_paths.specs.Questions.{Asks, numbers_of}
 use Rattle.prog_tree.proofs.Elements.{from_mapped}
 use Rattle.prog_paths.proofs.Edges.{HasQuestion-weaker, EdgeOf-weaker, EdgeOf-inside}

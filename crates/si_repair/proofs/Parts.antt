@@ -3,7 +3,7 @@ use Rattle.std.proofs.Common.{◌⊎◌, inl, inr, Bool, true, false, List, [], 
 use Rattle.std.specs.Prelude.{if◌then◌else◌, Contains}
 use Rattle.std.proofs.lemmas.List.Elements.{Contains-append_left, Contains-append_right, Contains-append_cases}
 use Rattle.prog_paths.specs.declared.accesses.places.Placed.{Placed}
-use Rattle.prog_paths.specs.declared.accesses.places.Question.{Question}
+use Rattle.prog_paths.specs.declared.accesses.questions.Question.{Question}
 use Rattle.prog_paths.specs.Questions.{asks, question_between, asked_by, asked_among}
 use Rattle.si_repair.specs.Exposed.{IsPart}
 

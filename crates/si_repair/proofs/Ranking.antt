@@ -12,7 +12,7 @@ use Rattle.prog_paths.specs.Meeting.{IsSingle}
 use Rattle.prog_paths.specs.StaticGraph.{QuestionNumbers, AsksOf}
 use Rattle.prog_paths.specs.Facts.{AreEqualWhereTheyMeet}
 use Rattle.prog_paths.specs.declared.accesses.places.Placed.{Placed}
-use Rattle.prog_paths.specs.declared.accesses.places.Question.{Question}
+use Rattle.prog_paths.specs.declared.accesses.questions.Question.{Question}
 use Rattle.prog_paths.specs.Questions.{numbers_of, question_between, ChangesSingleCells}
 use Rattle.prog_paths.specs.Places.{IsAt}
 use Rattle.prog_paths.proofs.Facts.{law_of_equal_terms}

@@ -5,7 +5,7 @@ use Rattle.order_facts.specs.declared.steps.Node.{Node}
 use Rattle.order_facts.specs.Chain.{IsTight}
 use Rattle.prog_check.specs.declared.path.Path.{Path}
 use Rattle.prog_paths.specs.Few.{AreFew}
-use Rattle.prog_paths.specs.declared.accesses.places.Question.{Question as Asked}
+use Rattle.prog_paths.specs.declared.accesses.questions.Question.{Question as Asked}
 use Rattle.conflict_pairs.specs.declared.verdicts.Verdict.{Verdict}
 use Rattle.conflict_pairs.specs.declared.verdicts.Verdict.TheVariants.{Apart, Covered, Exposed}
 use Rattle.conflict_pairs.specs.Interning.{AreInterned}

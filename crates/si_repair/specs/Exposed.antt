@@ -3,10 +3,10 @@ use Rattle.std.specs.Prelude.{◌≡◌, ◌⊎◌, ℕ, List, [], ◌∷◌, Al
 use Rattle.prog_check.specs.declared.path.Path.{Path}
 use Rattle.prog_paths.specs.StaticGraph.{AsksReadWrite, IsExposed}
 use Rattle.prog_paths.specs.declared.accesses.places.Placed.{Placed}
-use Rattle.prog_paths.specs.declared.accesses.places.Question.{Question}
-use Rattle.prog_paths.specs.Questions.{all_from, numbers_of, question_between, asked_among, questions_of}
+use Rattle.prog_paths.specs.declared.accesses.questions.Question.{Question}
+use Rattle.prog_paths.specs.Questions.{numbers_of, question_between, asked_among, questions_of}
 use Rattle.prog_paths.specs.Listing.{IsBefore}
-use Rattle.prog_paths.specs.Places.{IsAt}
+use Rattle.prog_paths.specs.Places.{IsAt, all_from}
 use Rattle.conflict_pairs.specs.Alike.{HasAccess}
 use Rattle.repair_laws.specs.declared.plan.Pair.{Pair}
 use Rattle.repair_laws.specs.Keys.{ExposedOf}

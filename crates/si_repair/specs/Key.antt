@@ -8,7 +8,7 @@ use Rattle.prog_check.specs.declared.path.Access.{Access}
 use Rattle.prog_check.specs.declared.path.Path.{Path}
 use Rattle.prog_paths.specs.Facts.{question_facts, AreEqualWhereTheyMeet}
 use Rattle.prog_paths.specs.StaticGraph.{AsksOf, AsksReadWrite}
-use Rattle.prog_paths.specs.declared.accesses.places.Question.{Question}
+use Rattle.prog_paths.specs.declared.accesses.questions.Question.{Question}
 use Rattle.prog_paths.specs.Questions.{numbers_of}
 
 -- the two accesses are those of a question whose first may miss what its second changes

@@ -7,7 +7,7 @@ use Rattle.prog_check.specs.declared.path.Path.{Path}
 use Rattle.prog_check.specs.Paths.{paths_of}
 use Rattle.prog_check.specs.Uses.{as_count}
 use Rattle.prog_paths.specs.StaticGraph.{IsAccessOf}
-use Rattle.prog_paths.specs.declared.accesses.places.Question.{Question}
+use Rattle.prog_paths.specs.declared.accesses.questions.Question.{Question}
 use Rattle.repair_laws.specs.declared.plan.Pair.{Pair}
 use Rattle.repair_laws.specs.Refusals.{is_range, HasRangeRead, HasUnknownKey, IsCoverable, IsRangeAt, StopsAtBody, StopsAtKey}
 use Rattle.si_repair.specs.Exposed.{AreExposed}

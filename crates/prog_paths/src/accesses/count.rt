@@ -1,7 +1,8 @@
 //! How many questions there are, without memory: table by table, each in one walk.
 ghost use Rattle.std.specs.Prelude.{◌≡◌, ◌↔◌, ◌+◌, ◌^◌, ◌<◌, ◌++◌, ℕ, List, not, min, length, All, IsTrue};
 ghost use Rattle.prog_paths.specs.declared.accesses.places.Placed.{Placed};
-ghost use Rattle.prog_paths.specs.Questions.{placed_from, all_from, asked_among, questions_of};
+ghost use Rattle.prog_paths.specs.Places.{placed_from, all_from};
+ghost use Rattle.prog_paths.specs.Questions.{asked_among, questions_of};
 ghost use Rattle.prog_paths.specs.Limits.{most_questions};
 ghost use Rattle.prog_paths.specs.Tally.{IsTally, of_table, is_behind, is_before, Rises};
 

@@ -3,8 +3,7 @@ ghost use Rattle.std.specs.Prelude.{◌≡◌, IfOk};
 ghost use Rattle.order_facts.specs.Square.{Enters, IsEmptySquare};
 ghost use Rattle.prog_paths.specs.Marks.{mark_by, gives_edge, gives_vulnerable, EntersMark};
 
-use crate::accesses::asking::{asks_read_write, asks_write_read, both_write};
-use crate::accesses::places::Question;
+use crate::accesses::questions::{Question, asks_read_write, asks_write_read, both_write};
 use order_facts::Square;
 use std::alloc::{AllocError, Global};
 

@@ -1,9 +1,8 @@
-//! Accesses at their places, and what two of them ask.
+//! Accesses at their places.
 ghost use Rattle.std.specs.Prelude.{◌≡◌, ◌++◌, IfOk, OnOk};
-ghost use Rattle.prog_paths.specs.Questions.{kinds_depend, is_in_order, asks, question_between, placed_from, all_from, accesses_by, program_from};
+ghost use Rattle.prog_paths.specs.Places.{placed_from, all_from, accesses_by, program_from};
 
-use crate::accesses::asking::{asks_read_write, asks_write_read, both_write};
-use prog_check::{Access, Kind, Path};
+use prog_check::{Access, Path};
 use std::alloc::{AllocError, Global};
 
 /// An access with the number of its node and its own number there.
@@ -12,56 +11,6 @@ pub struct Placed {
     pub node: usize,
     pub number: usize,
     pub access: Access,
-}
-
-/// Access `a` of node `x` against access `b` of node `y`, with their kinds.
-#[derive(Clone, Copy, Debug, PartialEq, Eq)]
-pub struct Question {
-    pub x: usize,
-    pub a: usize,
-    pub y: usize,
-    pub b: usize,
-    pub mine: Kind,
-    pub theirs: Kind,
-}
-
-/// Whether the second changes what the first depends on.
-fn kinds_depend(mine: Kind, theirs: Kind) -> bool
-    ensures { result ≡ kinds_depend mine theirs }
-{
-    asks_read_write(mine, theirs) || asks_write_read(mine, theirs)
-}
-
-fn is_in_order(first: &Placed, second: &Placed) -> bool
-    ensures { result ≡ is_in_order first.now second.now }
-{
-    first.node < second.node || (first.node == second.node && first.number <= second.number)
-}
-
-/// Whether an access asks something of another.
-#[inline]
-pub fn asks(first: &Placed, second: &Placed) -> bool
-    ensures { result ≡ asks first.now second.now }
-{
-    let mine = first.access.kind;
-    let theirs = second.access.kind;
-    first.access.table == second.access.table
-        && (kinds_depend(mine, theirs) || (both_write(mine, theirs) && is_in_order(first, second)))
-}
-
-/// The question of an access against another.
-#[inline]
-pub fn question_between(first: &Placed, second: &Placed) -> Question
-    ensures { result ≡ question_between first.now second.now }
-{
-    Question {
-        x: first.node,
-        a: first.number,
-        y: second.node,
-        b: second.number,
-        mine: first.access.kind,
-        theirs: second.access.kind,
-    }
 }
 
 /// Adds the accesses of a node.

@@ -1,7 +1,7 @@
 //! The key under which the two programs of a pair meet.
 ghost use Rattle.std.specs.Prelude.{◌≡◌, ◌↔◌, ◌++◌, ℕ, List, All, IfOk, OnOk, IsTrue};
 ghost use Rattle.prog_paths.specs.Questions.{ChangesSingleCells};
-ghost use Rattle.prog_paths.specs.declared.accesses.places.Question.{Question as Asked};
+ghost use Rattle.prog_paths.specs.declared.accesses.questions.Question.{Question as Asked};
 ghost use Rattle.repair_laws.specs.Keys.{IsKeyOf};
 ghost use Rattle.si_repair.specs.Key.{IsMissed, AreFactsOf, PutEqual, AreLeft, AreForced, params_with, all_pairs};
 

@@ -1,5 +1,5 @@
 use Rattle.std.proofs.Common.{IfOk, sym, subst}
-use Rattle.prog_paths.specs.declared.accesses.places.Question.{Question}
+use Rattle.prog_paths.specs.declared.accesses.questions.Question.{Question}
 use Rattle.conflict_pairs.specs.Alike.{IsAsked, IsJudgedAt}
 use Rattle.conflict_pairs.proofs.judge.pair_verdict.Goals as goal
 

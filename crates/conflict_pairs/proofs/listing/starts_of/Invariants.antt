@@ -1,5 +1,5 @@
 use Rattle.std.proofs.Common.{◌≡◌, ◌+◌, ◌++◌, drop, length}
-use Rattle.prog_paths.specs.Questions.{all_from}
+use Rattle.prog_paths.specs.Places.{all_from}
 use Rattle.conflict_pairs.specs.Classes.{starts_from}
 use Rattle.conflict_pairs.proofs.listing.starts_of.Given as goal
 

@@ -2,7 +2,7 @@ use Rattle.std.proofs.Common.{◌≡◌, ℕ, ◌<◌, List, length, map, get_or
 use Rattle.std.specs.Prelude.{All}
 use Rattle.std.specs.List.{AllZip}
 use Rattle.std.proofs.lemmas.List.{length-map}
-use Rattle.prog_paths.specs.declared.accesses.places.Question.{Question}
+use Rattle.prog_paths.specs.declared.accesses.questions.Question.{Question}
 use Rattle.conflict_pairs.specs.Interning.{IsServed}
 use Rattle.conflict_pairs.specs.Alike.{IsAsked, IsJudgedAt}
 use Rattle.conflict_pairs.specs.Pairing.{question_at, questions_at}

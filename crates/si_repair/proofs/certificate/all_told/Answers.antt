@@ -1,6 +1,6 @@
 use Rattle.std.proofs.Common.{sym, subst, arith, ◌∙◌, ap}
 use Rattle.std.specs.Prelude.{Some}
-use Rattle.prog_paths.specs.declared.accesses.places.Question.{Question}
+use Rattle.prog_paths.specs.declared.accesses.questions.Question.{Question}
 use Rattle.conflict_pairs.specs.Interning.{IsServed}
 use Rattle.conflict_pairs.proofs.Serving.{served-at}
 use Rattle.conflict_pairs.proofs.Zipped.{AllZip-lengths}

@@ -1,6 +1,6 @@
 use Rattle.std.proofs.Common.{List, ℕ, ◌<◌, length, sym, subst}
 use Rattle.prog_check.specs.declared.path.Path.{Path}
-use Rattle.prog_paths.specs.Questions.{all_from}
+use Rattle.prog_paths.specs.Places.{all_from}
 use Rattle.conflict_pairs.proofs.classes.AccessClasses.is_same.Goals as goal
 
 pub class_at-requires : goal.class_at-requires

@@ -1,6 +1,6 @@
 use Rattle.std.proofs.Common.{◌≡◌, not, take}
 use Rattle.std.specs.Prelude.{All}
-use Rattle.prog_paths.specs.Questions.{all_from}
+use Rattle.prog_paths.specs.Places.{all_from}
 use Rattle.prog_paths.specs.Tally.{is_behind, is_before, Rises}
 use Rattle.prog_paths.proofs.accesses.count.next_table.Given as goal
 

@@ -1,6 +1,7 @@
 use Rattle.std.proofs.Common.{◌≡◌, ℕ, ◌+◌, ◌<◌, ◌∙◌, List, Option, length, min, ap, sym, subst, arith}
 use Rattle.prog_paths.specs.declared.accesses.places.Placed.{Placed}
-use Rattle.prog_paths.specs.Questions.{all_from, asked_among}
+use Rattle.prog_paths.specs.Places.{all_from}
+use Rattle.prog_paths.specs.Questions.{asked_among}
 use Rattle.prog_paths.specs.Limits.{most_questions}
 use Rattle.prog_paths.proofs.Walked.{before, left, none_before, before-none, count_more, less_left}
 use Rattle.prog_paths.proofs.accesses.count.question_count.Goals as goal

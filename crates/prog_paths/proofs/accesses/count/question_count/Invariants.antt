@@ -1,5 +1,6 @@
 use Rattle.std.proofs.Common.{◌≡◌, ◌+◌, min, length}
-use Rattle.prog_paths.specs.Questions.{all_from, asked_among}
+use Rattle.prog_paths.specs.Places.{all_from}
+use Rattle.prog_paths.specs.Questions.{asked_among}
 use Rattle.prog_paths.specs.Limits.{most_questions}
 use Rattle.prog_paths.proofs.Walked.{before, left}
 use Rattle.prog_paths.proofs.accesses.count.question_count.Given as goal

@@ -1,7 +1,7 @@
 use Rattle.std.proofs.Common.{◌++◌, List, ap, sym, subst, arith, take, ◌∙◌}
 use Rattle.prog_check.specs.declared.path.Access.{Access}
 use Rattle.prog_paths.specs.declared.accesses.places.Placed.{Placed}
-use Rattle.prog_paths.specs.Questions.{placed_from, all_from}
+use Rattle.prog_paths.specs.Places.{placed_from, all_from}
 use Rattle.prog_paths.specs.Tally.{IsTally}
 use Rattle.prog_paths.proofs.Walked.{all_from-more, first_nodes}
 use Rattle.prog_paths.proofs.accesses.count.tally_of.Goals as goal

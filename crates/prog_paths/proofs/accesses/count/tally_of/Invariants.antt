@@ -1,5 +1,5 @@
 use Rattle.std.proofs.Common.{take}
-use Rattle.prog_paths.specs.Questions.{all_from}
+use Rattle.prog_paths.specs.Places.{all_from}
 use Rattle.prog_paths.specs.Tally.{IsTally}
 use Rattle.prog_paths.proofs.accesses.count.tally_of.Given as goal
 

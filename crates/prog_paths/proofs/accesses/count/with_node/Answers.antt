@@ -1,7 +1,7 @@
 use Rattle.std.proofs.Common.{◌++◌, ◌+◌, List, refl, sym, subst, arith, take}
 use Rattle.prog_paths.specs.declared.accesses.places.Placed.{Placed}
 use Rattle.prog_paths.specs.declared.accesses.tally.Tally.{Tally}
-use Rattle.prog_paths.specs.Questions.{placed_from}
+use Rattle.prog_paths.specs.Places.{placed_from}
 use Rattle.prog_paths.specs.Tally.{IsTally}
 use Rattle.prog_paths.proofs.Questions.{placed}
 use Rattle.prog_paths.proofs.Counted.{tally-other}

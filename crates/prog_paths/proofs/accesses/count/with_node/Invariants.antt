@@ -1,7 +1,7 @@
 use Rattle.std.proofs.Common.{ℕ, List, ◌<◌, ◌++◌, take}
 use Rattle.std.specs.Prelude.{All}
 use Rattle.prog_paths.specs.declared.accesses.places.Placed.{Placed}
-use Rattle.prog_paths.specs.Questions.{placed_from}
+use Rattle.prog_paths.specs.Places.{placed_from}
 use Rattle.prog_paths.specs.Tally.{IsTally}
 use Rattle.prog_paths.proofs.accesses.count.with_node.Given as goal
 

@@ -1,5 +1,5 @@
 use Rattle.std.proofs.Common.{◌++◌, ◌∙◌, ap, arith}
-use Rattle.prog_paths.specs.Questions.{all_from, placed_from}
+use Rattle.prog_paths.specs.Places.{all_from, placed_from}
 use Rattle.prog_paths.proofs.Questions.{all-more, all-end}
 use Rattle.prog_paths.proofs.accesses.places.all_places.Goals as goal
 

@@ -1,5 +1,5 @@
 use Rattle.std.proofs.Common.{◌++◌, ◌∙◌, ap, arith}
-use Rattle.prog_paths.specs.Questions.{placed_from, program_from}
+use Rattle.prog_paths.specs.Places.{placed_from, program_from}
 use Rattle.prog_paths.proofs.Questions.{program-more, program-end}
 use Rattle.prog_paths.proofs.accesses.places.program_places.Goals as goal
 

@@ -1,5 +1,5 @@
 use Rattle.std.proofs.Common.{◌≡◌, ◌++◌, drop}
-use Rattle.prog_paths.specs.Questions.{program_from}
+use Rattle.prog_paths.specs.Places.{program_from}
 use Rattle.prog_paths.proofs.accesses.places.program_places.Given as goal
 
 -- the places so far, with those of the nodes that are left

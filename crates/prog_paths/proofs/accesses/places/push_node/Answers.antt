@@ -1,5 +1,5 @@
 use Rattle.std.proofs.Common.{◌++◌, arith}
-use Rattle.prog_paths.specs.Questions.{placed_from}
+use Rattle.prog_paths.specs.Places.{placed_from}
 use Rattle.prog_paths.proofs.Questions.{placed-more, placed-end}
 use Rattle.prog_paths.proofs.accesses.places.push_node.Goals as goal
 

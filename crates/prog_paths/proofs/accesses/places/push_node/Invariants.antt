@@ -1,5 +1,5 @@
 use Rattle.std.proofs.Common.{◌≡◌, ◌++◌, drop}
-use Rattle.prog_paths.specs.Questions.{placed_from}
+use Rattle.prog_paths.specs.Places.{placed_from}
 use Rattle.prog_paths.proofs.accesses.places.push_node.Given as goal
 
 -- the places so far, with those of the accesses that are left

@@ -2,7 +2,7 @@ use Rattle.std.proofs.Common.{◌≡◌, List, [], true, sym, ap, subst, ◌∙�
 use Rattle.std.specs.Prelude.{All}
 use Rattle.std.proofs.lemmas.List.Elements.{All-head}
 use Rattle.prog_paths.specs.StaticGraph.{QuestionNumbers}
-use Rattle.prog_paths.specs.declared.accesses.places.Question.{Question}
+use Rattle.prog_paths.specs.declared.accesses.questions.Question.{Question}
 use Rattle.prog_paths.specs.Questions.{asks, question_between, numbers_of}
 use Rattle.prog_paths.proofs.Questions.{if_yes}
 use Rattle.robust_cert.specs.Telling.{question_with, telling_of, IsBehind, mark_with}

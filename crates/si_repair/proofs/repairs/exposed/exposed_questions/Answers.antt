@@ -1,7 +1,7 @@
 use Rattle.std.proofs.Common.{◌∙◌, ◌++◌, List, ap, arith, subst}
 use Rattle.std.proofs.lemmas.List.{take_all}
 use Rattle.prog_paths.specs.declared.accesses.places.Placed.{Placed}
-use Rattle.prog_paths.specs.declared.accesses.places.Question.{Question}
+use Rattle.prog_paths.specs.declared.accesses.questions.Question.{Question}
 use Rattle.si_repair.specs.Exposed.{AreExposedAmong}
 use Rattle.si_repair.proofs.Exposed.{same_places, more-firsts, AreExposed-from_places}
 use Rattle.si_repair.proofs.repairs.exposed.exposed_questions.Goals as goal

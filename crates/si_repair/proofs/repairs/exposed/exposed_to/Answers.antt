@@ -1,6 +1,6 @@
 use Rattle.std.proofs.Common.{◌∙◌, ◌++◌, ◌∷◌, [], Vec, Global, ap, sym, arith}
 use Rattle.std.proofs.lemmas.Bool.{false≢true}
-use Rattle.prog_paths.specs.declared.accesses.places.Question.{Question}
+use Rattle.prog_paths.specs.declared.accesses.questions.Question.{Question}
 use Rattle.si_repair.proofs.Exposed.{more-exposed, more-unexposed}
 use Rattle.si_repair.proofs.repairs.exposed.exposed_to.Goals as goal
 use Rattle.si_repair.proofs.repairs.exposed.exposed_to.Goals.{then-branch+in_ok-push, else-branch}

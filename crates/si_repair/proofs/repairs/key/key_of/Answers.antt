@@ -2,7 +2,7 @@ use Rattle.std.proofs.Common.{ℕ, List, [], ◌++◌, ◌∙◌, inl, inr, refl
 use Rattle.std.specs.Prelude.{All, Option, slice_get}
 use Rattle.std.proofs.lemmas.Bool.{eqb-true}
 use Rattle.std.proofs.lemmas.List.{nil_from_length}
-use Rattle.prog_paths.specs.declared.accesses.places.Question.{Question}
+use Rattle.prog_paths.specs.declared.accesses.questions.Question.{Question}
 use Rattle.repair_laws.specs.Keys.{IsKeyOf}
 use Rattle.si_repair.specs.Key.{IsMissed, AreForced}
 use Rattle.si_repair.proofs.Exposed.{among-no_firsts, more-firsts, same_places}

@@ -1,5 +1,5 @@
 use Rattle.std.proofs.Common.{List, take}
-use Rattle.prog_paths.specs.declared.accesses.places.Question.{Question}
+use Rattle.prog_paths.specs.declared.accesses.questions.Question.{Question}
 use Rattle.si_repair.specs.Key.{AreForced}
 use Rattle.si_repair.specs.Exposed.{AreExposedAmong}
 use Rattle.si_repair.proofs.repairs.key.key_of.Given as goal

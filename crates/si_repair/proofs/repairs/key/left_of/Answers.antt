@@ -1,6 +1,6 @@
 use Rattle.std.proofs.Common.{ℕ, List, ◌++◌, sym, subst, ap, arith}
 use Rattle.std.proofs.lemmas.List.{append-nil, take_all}
-use Rattle.prog_paths.specs.declared.accesses.places.Question.{Question}
+use Rattle.prog_paths.specs.declared.accesses.questions.Question.{Question}
 use Rattle.si_repair.specs.Key.{AreLeft, AreForced}
 use Rattle.si_repair.proofs.Ranking.{AreForced-more}
 use Rattle.si_repair.proofs.repairs.key.left_of.Goals as goal

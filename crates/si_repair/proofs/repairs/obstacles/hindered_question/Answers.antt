@@ -3,7 +3,7 @@ use Rattle.std.specs.Prelude.{All, slice_get}
 use Rattle.prog_tree.specs.Tree.{draft_tree}
 use Rattle.prog_check.specs.declared.path.Path.{Path}
 use Rattle.prog_paths.specs.Questions.{ChangesSingleCells}
-use Rattle.prog_paths.specs.declared.accesses.places.Question.{Question}
+use Rattle.prog_paths.specs.declared.accesses.questions.Question.{Question}
 use Rattle.prog_paths.proofs.SingleCells.{law_of_single_changes}
 use Rattle.repair_laws.specs.Refusals.{IsRangeAt}
 use Rattle.si_repair.specs.Exposed.{AreExposed, HasBoth}
