@@ -69,30 +69,37 @@ pub fn second_terms(mine: Option<Column>, theirs: Option<Column>) -> Option<(Ter
     }
 }
 
+/// Two facts for each column.
+#[derive(Drop)]
+enum Held {
+    OneColumn([Fact; 2]),
+    TwoColumns([Fact; 4]),
+}
+
 /// The facts of a question, which take no memory.
 #[derive(Drop)]
 pub struct QuestionFacts {
-    facts: [Fact; 4],
-    // Two for each column.
-    count: usize,
+    held: Held,
 }
 
 impl Model for QuestionFacts {
-    ghost use Rattle.std.specs.Prelude.{◌≤◌, List, take};
+    ghost use Rattle.std.specs.Prelude.{List};
     ghost use Rattle.order_facts.specs.declared.steps.Fact.{Fact};
+    ghost use Rattle.prog_paths.specs.Facts.{facts_held};
 
     ghost Value = { List Fact };
 
-    ghost view = { λ q. take q.count q.facts };
-
-    ghost invariant = { λ q. q.count ≤ 4 };
+    ghost view = { λ q. facts_held q.held };
 }
 
 impl QuestionFacts {
     pub fn as_slice(&self) -> &[Fact]
         ensures { result.now ≡ self.now }
     {
-        &self.facts[..self.count]
+        match &self.held {
+            Held::OneColumn(facts) => facts.as_slice(),
+            Held::TwoColumns(facts) => facts.as_slice(),
+        }
     }
 }
 
@@ -101,8 +108,7 @@ fn of_both(first: (Fact, Fact), second: (Fact, Fact)) -> QuestionFacts
     ensures { result ≡ first.0 ∷ first.1 ∷ second.0 ∷ second.1 ∷ [] }
 {
     QuestionFacts {
-        facts: [first.0, first.1, second.0, second.1],
-        count: 4,
+        held: Held::TwoColumns([first.0, first.1, second.0, second.1]),
     }
 }
 
@@ -114,8 +120,7 @@ pub fn question_facts(mine: &Access, theirs: &Access) -> QuestionFacts
     let first = column_facts(mine.first, theirs.first);
     match (mine.second, theirs.second) {
         (None, None) => QuestionFacts {
-            facts: [first.0, first.1, first.0, first.1],
-            count: 2,
+            held: Held::OneColumn([first.0, first.1]),
         },
         (None, Some(theirs)) => of_both(first, column_facts(column_or_zero(None), theirs)),
         (Some(mine), theirs) => of_both(first, column_facts(mine, column_or_zero(theirs))),
