@@ -11,7 +11,7 @@ use prog_check::{MAX_STATEMENTS, ProgramSet};
 use prog_tree::{Block, Name, Stmt};
 use std::alloc::{AllocError, Global};
 
-/// How many statements a statement is, with those of its blocks, up to 257.
+/// How many statements a statement is, with those of its blocks, up to the most that are counted.
 #[cycle(sizes)]
 fn count_own(stmt: &Stmt) -> usize
     ensures few { result ≤ MAX_COUNTED }
@@ -28,7 +28,7 @@ fn count_own(stmt: &Stmt) -> usize
     }
 }
 
-/// How many statements a block has, with those of its blocks, up to 257.
+/// How many statements a block has, with those of its blocks, up to the most that are counted.
 #[cycle(sizes)]
 pub fn count_statements(block: &Block) -> usize
     ensures few { result ≤ MAX_COUNTED }
