@@ -2,7 +2,7 @@
 use Rattle.std.proofs.Common.{◌≡◌, ℕ, ◌<◌, ◌≤◌, ◌+◌, ◌⊎◌, inl, inr, [], ◌∷◌, refl, sym, subst, arith}
 use Rattle.std.proofs.lemmas.Bool.{cases_lt}
 use Rattle.order_facts.specs.Square.{Grid, Joins}
-use Rattle.prog_paths.specs.Listing.{IsAtMost}
+use Rattle.prog_paths.specs.StaticGraph.{IsAtMost}
 use Rattle.order_facts.specs.Words.{IsNextJoined}
 use Rattle.dep_graph.specs.Triple.{ClosesAt, IsLeastEnd, IsLeastPair}
 

@@ -2,7 +2,7 @@
 use Rattle.std.proofs.Common.{◌≡◌, ℕ, List, [], ◌∷◌, length, ◌<◌, ◌≤◌, ◌+◌, ◌⊎◌, inl, inr, Option, Some, refl, sym, ap, subst, ◌∙◌, arith}
 use Rattle.std.proofs.lemmas.Bool.{cases_lt}
 use Rattle.order_facts.specs.Square.{Grid, Joins}
-use Rattle.prog_paths.specs.Listing.{IsAtMost}
+use Rattle.prog_paths.specs.StaticGraph.{IsAtMost}
 use Rattle.dep_graph.specs.Ways.{LeadsOn, IsWay, IsLeastWay}
 use Rattle.dep_graph.specs.Distances.{distance_at, IsDistanceOfWay, KnowsWithin, StepsNearer, IsLeastNearer}
 use Rattle.dep_graph.proofs.Rounds.{least_known}

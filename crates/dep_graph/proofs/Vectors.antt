@@ -1,7 +1,7 @@
 -- Worked examples of the definitions, told by hand.
 use Rattle.std.proofs.Common.{◌≡◌, ℕ, Bool, true, false, ◌&&◌, ◌||◌, [], ◌∷◌, inl, inr, refl, arith}
 use Rattle.std.specs.Prelude.{◌==◌}
-use Rattle.prog_paths.specs.Listing.{IsAtMost}
+use Rattle.prog_paths.specs.StaticGraph.{IsAtMost}
 use Rattle.dep_graph.specs.Ways.{IsWay}
 use Rattle.dep_graph.specs.Counting.{IsCountOf, none, counted, passed}
 use Rattle.dep_graph.proofs.Closing.{leads_through}

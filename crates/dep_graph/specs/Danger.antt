@@ -1,14 +1,13 @@
 -- The least dangerous structure of a list of paths.
 use Rattle.std.specs.Prelude.{◌≡◌, ℕ, ◌<◌, ◌≤◌, ◌⊎◌, List, [], ◌∷◌, Some, slice_get}
 use Rattle.prog_check.specs.declared.path.Path.{Path}
-use Rattle.prog_paths.specs.StaticGraph.{IsExposed, StaticEdge, IsVulnerable, IsDangerousAt, HasReadWrite}
+use Rattle.prog_paths.specs.StaticGraph.{IsExposed, StaticEdge, IsVulnerable, IsDangerousAt, HasReadWrite, IsAtMost}
 use Rattle.conflict_pairs.specs.declared.verdicts.Verdict.TheVariants.{Exposed}
 use Rattle.conflict_pairs.specs.Verdicts.{IsExposedBy}
 use Rattle.conflict_pairs.specs.Table.{Judged, Table}
 use Rattle.prog_paths.specs.Questions.{numbers_of}
 use Rattle.dep_graph.specs.declared.danger.Danger.{Danger}
 use Rattle.dep_graph.specs.declared.danger.Exposure.{Exposure}
-use Rattle.prog_paths.specs.Listing.{IsAtMost}
 use Rattle.dep_graph.specs.Ways.{IsLeastWay}
 use Rattle.dep_graph.specs.Marks.{IsFirstVulnerable, marks_of}
 

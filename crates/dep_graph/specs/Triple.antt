@@ -2,7 +2,7 @@
 use Rattle.std.specs.Prelude.{ℕ, [], ◌∷◌, ◌≡◌, ◌≤◌}
 use Rattle.dep_graph.specs.declared.triple.Triple.{Triple}
 use Rattle.order_facts.specs.Square.{Grid, Joins}
-use Rattle.prog_paths.specs.Listing.{IsAtMost}
+use Rattle.prog_paths.specs.StaticGraph.{IsAtMost}
 
 -- a vulnerable edge from x to y, one from y to z, and z reaches x
 pub record ClosesAt (vulnerable reach : Grid) (x y z : ℕ) : Type 0 where

@@ -1,6 +1,6 @@
 -- Ways as lists of nodes, and the least of the shortest.
 use Rattle.std.specs.Prelude.{◌≡◌, ℕ, List, [], ◌∷◌, length, ◌≤◌}
-use Rattle.prog_paths.specs.Listing.{IsAtMost}
+use Rattle.prog_paths.specs.StaticGraph.{IsAtMost}
 
 -- on from a node through the nodes of a list to the end, each joined to the next
 abbrev pub LeadsOn : (ℕ → ℕ → Type 0) → ℕ → List ℕ → ℕ → Type 0

@@ -1,4 +1,4 @@
--- The laws of the list of questions: it has each once, in order, and may be asked of the paths of a set.
+-- The laws of the list of questions: it has each once, in order.
 use Rattle.std.specs.Prelude.{◌≡◌, ◌↔◌, ℕ, ◌<◌, ◌⊎◌, List, [], ◌∷◌, All, Contains}
 use Rattle.prog_check.specs.declared.path.Access.{Access}
 use Rattle.prog_check.specs.declared.path.Path.{Path}
@@ -22,12 +22,6 @@ IsPlaceBefore x a y b = (x < y) ⊎ ((x ≡ y) × (a < b))
 -- a question stands before another, by the first access and then by the second
 abbrev pub IsBefore : QuestionNumbers → QuestionNumbers → Type 0
 IsBefore p q = IsPlaceBefore p.x p.a q.x q.a ⊎ ((p.x ≡ q.x) × (p.a ≡ q.a) × IsPlaceBefore p.y p.b q.y q.b)
-
--- the one list of nodes is the other, or stands before it in node order
-abbrev pub IsAtMost : List ℕ → List ℕ → Type 0
-IsAtMost [] others = Unit {0}
-IsAtMost (x ∷ xs) [] = ⊥
-IsAtMost (x ∷ xs) (y ∷ ys) = (x < y) ⊎ ((x ≡ y) × IsAtMost xs ys)
 
 -- the question of each thing stands before those of all that follow
 abbrev pub RiseBy : {A : Type 0} → (A → QuestionNumbers) → List A → Type 0

@@ -1,5 +1,5 @@
 -- Questions, static dependency edges, vulnerable edges, and dangerous structures over the committing paths of a set.
-use Rattle.std.specs.Prelude.{◌≡◌, ℕ, List, ◌<◌, ◌≤◌, ◌⊎◌, slice_get, Some}
+use Rattle.std.specs.Prelude.{◌≡◌, ℕ, List, [], ◌∷◌, ◌<◌, ◌≤◌, ◌⊎◌, slice_get, Some}
 use Rattle.prog_check.specs.declared.path.Kind.{Kind}
 use Rattle.prog_check.specs.declared.path.Kind.TheVariants.{Reads, Sees, Lacks, Writes, Adds}
 use Rattle.prog_check.specs.declared.path.Access.{Access}
@@ -109,3 +109,11 @@ pub record IsDangerousAt (edge vulnerable : ℕ → ℕ → Type 0) (x y z : ℕ
 
 abbrev pub IsDangerous : List Path → Type 0
 IsDangerous nodes = (x : ℕ) × (y : ℕ) × (z : ℕ) × IsDangerousAt (StaticEdge nodes) (IsVulnerable nodes) x y z
+
+-- ---- which of several is told
+
+-- the one list of nodes is the other, or stands before it in node order
+abbrev pub IsAtMost : List ℕ → List ℕ → Type 0
+IsAtMost [] others = Unit {0}
+IsAtMost (x ∷ xs) [] = ⊥
+IsAtMost (x ∷ xs) (y ∷ ys) = (x < y) ⊎ ((x ≡ y) × IsAtMost xs ys)

@@ -6,7 +6,7 @@ use Rattle.robust_cert.specs.declared.checking.levels.Triple.{Triple}
 use Rattle.robust_cert.specs.declared.fault.CertFault.{CertFault}
 use Rattle.robust_cert.specs.declared.fault.CertFault.TheVariants.{LevelFalls, Dangerous}
 use Rattle.order_facts.specs.Square.{Grid, Joins}
-use Rattle.prog_paths.specs.Listing.{IsAtMost}
+use Rattle.prog_paths.specs.StaticGraph.{IsAtMost}
 
 -- ---- edges of any relation
 

@@ -1,7 +1,7 @@
 use Rattle.std.proofs.Common.{◌≡◌, ℕ, ◌<◌, ◌≤◌, List, [], ◌∷◌}
 use Rattle.std.specs.Prelude.{IfSome, IfNone}
 use Rattle.order_facts.specs.Square.{Grid}
-use Rattle.prog_paths.specs.Listing.{IsAtMost}
+use Rattle.prog_paths.specs.StaticGraph.{IsAtMost}
 use Rattle.robust_cert.specs.declared.checking.levels.Edge.{Edge}
 use Rattle.robust_cert.specs.Levels.{StaysIn, StaysBy}
 use Rattle.robust_cert.proofs.checking.levels.least_first_edge.Given as goal
