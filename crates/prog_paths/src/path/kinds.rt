@@ -1,34 +1,33 @@
 //! What a statement does to its table.
-ghost use Rattle.std.specs.Prelude.{◌≡◌, ◌++◌, option_copied};
+ghost use Rattle.std.specs.Prelude.{◌≡◌, option_copied};
 ghost use Rattle.std.specs.Option.{option_map};
 ghost use Rattle.prog_tree.specs.Numbering.{number_of};
 ghost use Rattle.prog_tree.specs.Tree.{stmt_tree};
 ghost use Rattle.prog_check.specs.Accesses.{grows_used, number_used};
 ghost use Rattle.prog_check.specs.Tables.{declaration, grows};
 ghost use Rattle.prog_check.specs.Uses.{used_table_by};
-ghost use Rattle.prog_paths.specs.Kinds.{option_items};
 ghost use Rattle.prog_paths.specs.Trails.{kinds_by};
 
 use prog_check::{Kind, ProgramSet};
 use prog_tree::{Name, Stmt};
 
-/// The kinds of a statement's accesses, one or two in a row.
-pub fn kinds(grow: bool, stmt: &Stmt) -> (Option<Kind>, Option<Kind>)
-    ensures { option_items result.0 ++ option_items result.1 ≡ kinds_by grow (stmt_tree stmt.now) }
+/// The kinds of a statement's accesses in a row, two at most.
+pub fn kinds(grow: bool, stmt: &Stmt) -> &'static [Kind]
+    ensures { result.now ≡ kinds_by grow (stmt_tree stmt.now) }
 {
     match stmt {
         Stmt::Get { .. } | Stmt::Count { .. } | Stmt::Sum { .. } | Stmt::Each { .. } => {
-            (Some(Kind::Reads), None)
+            &[Kind::Reads]
         }
-        Stmt::Need { .. } if grow => (Some(Kind::Sees), None),
-        Stmt::Need { .. } => (Some(Kind::Reads), None),
-        Stmt::Lacks { .. } if grow => (Some(Kind::Lacks), None),
-        Stmt::Lacks { .. } => (Some(Kind::Reads), None),
-        Stmt::Put { .. } | Stmt::Delete { .. } => (Some(Kind::Writes), None),
-        Stmt::Insert { .. } if grow => (Some(Kind::Adds), None),
-        Stmt::Insert { .. } => (Some(Kind::Reads), Some(Kind::Writes)),
-        Stmt::Keep { .. } => (Some(Kind::Keeps), None),
-        Stmt::Bind { .. } | Stmt::Branch { .. } | Stmt::Reply { .. } | Stmt::Abort => (None, None),
+        Stmt::Need { .. } if grow => &[Kind::Sees],
+        Stmt::Need { .. } => &[Kind::Reads],
+        Stmt::Lacks { .. } if grow => &[Kind::Lacks],
+        Stmt::Lacks { .. } => &[Kind::Reads],
+        Stmt::Put { .. } | Stmt::Delete { .. } => &[Kind::Writes],
+        Stmt::Insert { .. } if grow => &[Kind::Adds],
+        Stmt::Insert { .. } => &[Kind::Reads, Kind::Writes],
+        Stmt::Keep { .. } => &[Kind::Keeps],
+        Stmt::Bind { .. } | Stmt::Branch { .. } | Stmt::Reply { .. } | Stmt::Abort => &[],
     }
 }
 

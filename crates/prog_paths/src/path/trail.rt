@@ -1,7 +1,7 @@
 //! Ways through a program as far as they have come.
 ghost use Rattle.std.specs.Prelude.{◌≡◌, ◌<◌, ◌++◌, map, IfOk, OnOk};
 ghost use Rattle.prog_tree.specs.Tree.{stmt_tree};
-ghost use Rattle.prog_paths.specs.Kinds.{option_items, access_with};
+ghost use Rattle.prog_paths.specs.Kinds.{access_with};
 ghost use Rattle.prog_paths.specs.Trails.{past, with_choice};
 
 use crate::limits::MAX_UNKNOWNS;
@@ -48,20 +48,21 @@ impl Trail {
     }
 }
 
-fn add_access(
+// Adds an access of each kind.
+fn add_accesses(
     accesses: &mut Accesses,
     table: usize,
     columns: Columns,
     sure: bool,
     place: usize,
-    kind: Option<Kind>,
+    kinds: &[Kind],
 ) -> Result<(), AllocError>
     ensures { OnOk result (accesses.new
-        ≡ accesses.old ++ map (access_with table columns sure place) (option_items kind)) }
+        ≡ accesses.old ++ map (access_with table columns sure place) kinds.now) }
 {
-    if let Some(kind) = kind {
+    for kind in kinds {
         accesses.push(Access {
-            kind,
+            kind: *kind,
             table,
             first: columns.first,
             second: columns.second,
@@ -90,9 +91,8 @@ pub fn pass(
         return Ok(());
     };
     let (table, grow) = table_used(set, stmt);
-    let (kind, second) = kinds(grow, stmt);
-    add_access(&mut trail.accesses, table, columns, sure, number, kind)?;
-    add_access(&mut trail.accesses, table, columns, sure, number, second)?;
+    let kinds = kinds(grow, stmt);
+    add_accesses(&mut trail.accesses, table, columns, sure, number, kinds)?;
     trail.unknown = columns.next;
     Ok(())
 }
