@@ -59,7 +59,11 @@ few-from_sound draft sound =
     all k p at = let e : k ≡ 0 + k = omega arith in subst (λ (m : ℕ). IsSoundProgram draft.tables m p) e (sound.programs k p at)
 
 -- when no program is left
+pub all-at_end : (draft : Draft) (n : ℕ) (out : List Path) → length draft.programs.items ≤ n → out ++ paths_from draft.tables.items n (map program_tree (drop n draft.programs.items)) ≡ paths_of (draft_tree draft) → out ≡ paths_of (draft_tree draft)
+all-at_end draft n out past is =
+    let none = ap (λ (ps : List Program). out ++ paths_from draft.tables.items n (map program_tree ps)) (sym (drop_all n draft.programs.items past)) in
+    sym (append-nil out) ∙ none ∙ is
+
 pub few-at_end : (draft : Draft) (n : ℕ) (out : List Path) → IsSound (draft_tree draft) → length draft.programs.items ≤ n → out ++ paths_from draft.tables.items n (map program_tree (drop n draft.programs.items)) ≡ paths_of (draft_tree draft) → AreFew out
 few-at_end draft n out sound past is =
-    let none = ap (λ (ps : List Program). out ++ paths_from draft.tables.items n (map program_tree ps)) (sym (drop_all n draft.programs.items past)) in
-    subst (λ (ps : List Path). AreFew ps) (sym (sym (append-nil out) ∙ none ∙ is)) (few-from_sound (draft_tree draft) sound)
+    subst (λ (ps : List Path). AreFew ps) (sym (all-at_end draft n out past is)) (few-from_sound (draft_tree draft) sound)

@@ -1,8 +1,9 @@
 //! The committing paths of a set.
-ghost use Rattle.std.specs.Prelude.{◌≡◌, ◌≤◌, ◌++◌, map, IfOk, OnOk};
+ghost use Rattle.std.specs.Prelude.{◌≡◌, ◌≤◌, ◌++◌, map, All, IfOk, OnOk};
 ghost use Rattle.prog_tree.specs.Tree.{draft_tree, program_tree};
 ghost use Rattle.prog_check.specs.Paths.{statement_count, program_paths, paths_of};
 ghost use Rattle.prog_paths.specs.Few.{AreFew};
+ghost use Rattle.prog_paths.specs.Questions.{ChangesSingleCells};
 ghost use Rattle.prog_paths.specs.Trails.{path_with};
 
 use crate::path::trail::Trail;
@@ -57,6 +58,7 @@ fn add_paths(
 pub fn paths(alloc: Global, set: &ProgramSet) -> Result<Vec<Path>, AllocError>
     ensures exact { IfOk result (λ paths. paths.items ≡ paths_of (draft_tree set.now)) }
     ensures few { IfOk result (λ paths. AreFew paths.items) }
+    ensures single { IfOk result (λ paths. All ChangesSingleCells paths.items) }
 {
     let mut paths = Vec::new(alloc);
     for (number, program) in set.draft().programs.iter().enumerate() {
