@@ -6,7 +6,7 @@ use Rattle.order_facts.specs.declared.steps.Node.{Node}
 use Rattle.order_facts.specs.declared.steps.Fact.{Fact}
 use Rattle.order_facts.specs.declared.sample.Choice.{Choice}
 use Rattle.order_facts.specs.Chain as facts
-use Rattle.order_facts.specs.Sample.{assignment_of}
+use Rattle.order_facts.specs.Sample.{valuation_of}
 use Rattle.prog_check.specs.declared.path.Access.{Access}
 use Rattle.prog_check.specs.declared.path.Path.{Path}
 use Rattle.prog_paths.specs.Meeting.{MeetsUnder, CanMeet, MayTouch}
@@ -80,7 +80,7 @@ module _ (x y : Path) (a b : ℕ) (mine theirs : Access) (pair : IsPair mine the
   }
     where
       consistent : facts.IsConsistent own_facts
-      consistent = (assignment_of sample, h.0.0, h.0.1)
+      consistent = (valuation_of sample, h.0.0, h.0.1)
 
       meets : MeetsUnder (mine_of sample) (theirs_of sample) mine theirs
       meets = record {

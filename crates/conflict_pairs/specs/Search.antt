@@ -2,8 +2,8 @@
 use Rattle.std.specs.Prelude.{◌≡◌, ◌<◌, ◌≤◌, ◌⊎◌, ℕ, List, length, All, Option, None, Some, slice_get}
 use Rattle.order_facts.specs.declared.steps.Node.{Node}
 use Rattle.order_facts.specs.declared.steps.Fact.{Fact}
-use Rattle.order_facts.specs.Chain.{IsConsistent, IsOfI64, Meets}
-use Rattle.order_facts.specs.Sample.{sample_number, assignment_of, IsSampled}
+use Rattle.order_facts.specs.Chain.{IsConsistent, IsValuationOfI64, Meets}
+use Rattle.order_facts.specs.Sample.{sample_number, valuation_of, IsSampled}
 use Rattle.prog_check.specs.declared.path.Kind.{Kind}
 use Rattle.prog_paths.specs.StaticGraph.{AsksReadWrite}
 use Rattle.prog_check.specs.declared.path.Access.{Access}
@@ -69,7 +69,7 @@ abbrev pub IsUncovered : List Fact → Verdict → Type 0
 IsUncovered facts (Apart chain) = FallsShortest facts chain
 IsUncovered facts (Covered m t chains) = ⊥
 IsUncovered facts (Exposed sample) =
-    (IsOfI64 (assignment_of sample) × Meets (assignment_of sample) facts)
+    (IsValuationOfI64 (valuation_of sample) × Meets (valuation_of sample) facts)
     × ((n : Node) → IsSampled facts n (sample_number sample n))
 
 -- the chains show that the two accesses at these places have one cell

@@ -12,9 +12,9 @@ use Rattle.order_facts.specs.declared.steps.Node.TheVariants.{Mine, MineUnknown,
 use Rattle.order_facts.specs.declared.steps.Fact.{Fact}
 use Rattle.order_facts.specs.declared.sample.Choice.{Choice}
 use Rattle.prog_tree.specs.Number.{least, greatest, IsI64}
-use Rattle.order_facts.specs.Chain.{floor_of, ceiling_of, Entails, IsConsistent, IsOfI64, Meets, value_under, Assignment}
+use Rattle.order_facts.specs.Chain.{floor_of, ceiling_of, Entails, IsConsistent, IsValuationOfI64, Meets, value_under, Valuation}
 use Rattle.order_facts.specs.Reaches.{is_same_unknown, is_below, reaches, fact_at}
-use Rattle.order_facts.specs.Sample.{chosen, sample_number, assignment_of, IsNearest, IsSampled, HasChoice}
+use Rattle.order_facts.specs.Sample.{chosen, sample_number, valuation_of, IsNearest, IsSampled, HasChoice}
 use Rattle.order_facts.proofs.Reach.{is_same_unknown-true, is_below-cases, reaches-first, reaches-last, reaches-fact, reaches-trans}
 use Rattle.order_facts.proofs.Bounds.{≤ℤ_trans, number-below, below-number, floor-reaches, reaches-ceiling}
 use Rattle.order_facts.proofs.Exact.{Entails-from_reaches, reaches-from_Entails, orderly_from_IsConsistent}
@@ -143,9 +143,9 @@ nearest-mono low high z low' high' z' n m l h = by_lt_z z' z (λ less. absurd (c
         let zero : unsigned_abs z ≤ unsigned_abs (pos 0) = n.nearest (pos 0) low_zero zero_high in
         absurd (omega (arith, ints))
 
-value_under-assignment_of : (choices : List Choice) (node : Node) → value_under (assignment_of choices) node ≡ sample_number choices node
-value_under-assignment_of choices (Number k) = refl
-value_under-assignment_of choices _ = refl
+value_under-valuation_of : (choices : List Choice) (node : Node) → value_under (valuation_of choices) node ≡ sample_number choices node
+value_under-valuation_of choices (Number k) = refl
+value_under-valuation_of choices _ = refl
 
 module _ (fs : List Fact) (choices : List Choice) (s : (node : Node) → IsSampled fs node (sample_number choices node)) where
   -- where the facts force one node below another, the sample keeps it
@@ -155,13 +155,13 @@ module _ (fs : List Fact) (choices : List Choice) (s : (node : Node) → IsSampl
       let b = s y in
       nearest-mono a.low a.high _ b.low b.high _ a.between b.between (b.below.greatest a.low (λ v o m. ≤ℤ_trans _ _ _ (a.below.forced v o m) (h v o m))) (a.above.least b.high (λ v o m. ≤ℤ_trans _ _ _ (h v o m) (b.above.forced v o m)))
 
-  fits : (node : Node) → ((v : Assignment) → IsOfI64 v → IsI64 (value_under v node)) → IsI64 (sample_number choices node)
+  fits : (node : Node) → ((v : Valuation) → IsValuationOfI64 v → IsI64 (value_under v node)) → IsI64 (sample_number choices node)
   fits node h =
       let a = s node in
       (≤ℤ_trans _ _ _ (a.below.greatest least (λ v o m. (h v o).0)) a.between.at_least, ≤ℤ_trans _ _ _ a.between.at_most (a.above.least greatest (λ v o m. (h v o).1)))
 
-  pub IsOfI64-assignment_of : IsOfI64 (assignment_of choices)
-  IsOfI64-assignment_of = record { mine = λ i. fits (Mine i) (λ v o. o.mine i); mine_unknown = λ i. fits (MineUnknown i) (λ v o. o.mine_unknown i); theirs = λ i. fits (Theirs i) (λ v o. o.theirs i); theirs_unknown = λ i. fits (TheirsUnknown i) (λ v o. o.theirs_unknown i) }
+  pub IsValuationOfI64-valuation_of : IsValuationOfI64 (valuation_of choices)
+  IsValuationOfI64-valuation_of = record { mine = λ i. fits (Mine i) (λ v o. o.mine i); mine_unknown = λ i. fits (MineUnknown i) (λ v o. o.mine_unknown i); theirs = λ i. fits (Theirs i) (λ v o. o.theirs i); theirs_unknown = λ i. fits (TheirsUnknown i) (λ v o. o.theirs_unknown i) }
 
-  pub Meets-assignment_of : Meets (assignment_of choices) fs
-  Meets-assignment_of k d h = rw (value_under-assignment_of choices (get_or fs k d).lo, value_under-assignment_of choices (get_or fs k d).hi) (sampled-mono (get_or fs k d).lo (get_or fs k d).hi (λ v o m. m k d h))
+  pub Meets-valuation_of : Meets (valuation_of choices) fs
+  Meets-valuation_of k d h = rw (value_under-valuation_of choices (get_or fs k d).lo, value_under-valuation_of choices (get_or fs k d).hi) (sampled-mono (get_or fs k d).lo (get_or fs k d).hi (λ v o m. m k d h))

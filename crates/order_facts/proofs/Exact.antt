@@ -1,4 +1,4 @@
--- Reaching is entailment: it is sound, and where it fails some assignment shows it.
+-- Reaching is entailment: it is sound, and where it fails some valuation shows it.
 use Rattle.std.proofs.Common.{◌≡◌, ◌↔◌, Bool, List, [], ◌∷◌, true, false, cond, ℤ, pos, ◌≤ℤ◌, ◌⊎◌, inl, inr, refl, sym, ◌∙◌}
 use lib.Signed.{≤ℤ_refl}
 use Rattle.std.proofs.lemmas.Bool.{false≢true, cases_Bool}
@@ -7,24 +7,24 @@ use Rattle.prog_tree.proofs.Elements.{IsMember}
 use Rattle.order_facts.specs.declared.steps.Node.{Node}
 use Rattle.order_facts.specs.declared.steps.Node.TheVariants.{Mine, MineUnknown, Theirs, TheirsUnknown, Number}
 use Rattle.order_facts.specs.declared.steps.Fact.{Fact}
-use Rattle.order_facts.specs.Chain.{floor_of, ceiling_of, Assignment, IsOfI64, value_under, Meets, Entails, IsConsistent}
+use Rattle.order_facts.specs.Chain.{floor_of, ceiling_of, Valuation, IsValuationOfI64, value_under, Meets, Entails, IsConsistent}
 use Rattle.order_facts.specs.Reaches.{reaches}
 use Rattle.order_facts.proofs.Reach.{is_below-cases, is_below-plain, reaches-cases, reaches-below, reaches-refl, reaches-fact, reaches-trans}
 use Rattle.order_facts.proofs.Bounds.{≤ℤ_trans, ≤ℤ_antisym, larger, smaller, larger-left, larger-cases, smaller-left, larger-mono, smaller-mono, IsOrderly, low_of, high_of, low-floor, high-ceiling, low-reaches, reaches-high, low-mono, high-mono, low-high}
 
--- ---- an assignment that meets the facts, by recursion on them
-abbrev pub MeetsEach : Assignment → List Fact → Type 0
+-- ---- a valuation that meets the facts, by recursion on them
+abbrev pub MeetsEach : Valuation → List Fact → Type 0
 MeetsEach v [] = Unit {0}
 MeetsEach v (f ∷ fs) = (value_under v f.lo ≤ℤ value_under v f.hi) × MeetsEach v fs
 
-pub floor-value : (v : Assignment) → IsOfI64 v → (x : Node) → (floor_of x ≤ℤ value_under v x) × (value_under v x ≤ℤ ceiling_of x)
+pub floor-value : (v : Valuation) → IsValuationOfI64 v → (x : Node) → (floor_of x ≤ℤ value_under v x) × (value_under v x ≤ℤ ceiling_of x)
 floor-value v o (Mine i) = o.mine i
 floor-value v o (MineUnknown i) = o.mine_unknown i
 floor-value v o (Theirs i) = o.theirs i
 floor-value v o (TheirsUnknown i) = o.theirs_unknown i
 floor-value v o (Number k) = (≤ℤ_refl k, ≤ℤ_refl k)
 
-pub reaches-sound : (v : Assignment) → IsOfI64 v → (fs : List Fact) → MeetsEach v fs → (x y : Node) → reaches fs x y ≡ true → value_under v x ≤ℤ value_under v y
+pub reaches-sound : (v : Valuation) → IsValuationOfI64 v → (fs : List Fact) → MeetsEach v fs → (x y : Node) → reaches fs x y ≡ true → value_under v x ≤ℤ value_under v y
 unfolding reaches
 reaches-sound v o [] m x y e = go (is_below-cases x y e)
   where
@@ -37,8 +37,8 @@ reaches-sound v o (f ∷ fs) m x y e = go (reaches-cases f fs x y e) (reaches-so
     go (inl a) whole front back = whole a
     go (inr p) whole front back = ≤ℤ_trans _ _ _ (front p.0) (≤ℤ_trans _ _ _ m.0 (back p.1))
 
--- ---- an assignment from a number for each node
-pub assigned : (Node → ℤ) → Assignment
+-- ---- a valuation from a number for each node
+pub assigned : (Node → ℤ) → Valuation
 assigned f = record { mine = λ i. f (Mine i); mine_unknown = λ i. f (MineUnknown i); theirs = λ i. f (Theirs i); theirs_unknown = λ i. f (TheirsUnknown i) }
 
 -- a number for each node, between the bounds
@@ -53,9 +53,9 @@ unfolding assigned
 value_under-assigned fs f b (Number k) = sym (between-number fs f b k)
 value_under-assigned fs f b _ = refl
 
-pub IsOfI64-assigned : (fs : List Fact) (f : Node → ℤ) → IsBetween fs f → IsOfI64 (assigned f)
+pub IsValuationOfI64-assigned : (fs : List Fact) (f : Node → ℤ) → IsBetween fs f → IsValuationOfI64 (assigned f)
 unfolding assigned
-IsOfI64-assigned fs f b = record { mine = λ i. fits (Mine i); mine_unknown = λ i. fits (MineUnknown i); theirs = λ i. fits (Theirs i); theirs_unknown = λ i. fits (TheirsUnknown i) }
+IsValuationOfI64-assigned fs f b = record { mine = λ i. fits (Mine i); mine_unknown = λ i. fits (MineUnknown i); theirs = λ i. fits (Theirs i); theirs_unknown = λ i. fits (TheirsUnknown i) }
   where
     fits : (x : Node) → (floor_of x ≤ℤ f x) × (f x ≤ℤ ceiling_of x)
     fits x = (≤ℤ_trans _ _ _ (low-floor fs x) (b x).0, ≤ℤ_trans _ _ _ (b x).1 (high-ceiling fs x))
@@ -65,7 +65,7 @@ meets_each : (fs : List Fact) (f : Node → ℤ) → IsBetween fs f → (gs : Li
 meets_each fs f b [] h = tt
 meets_each fs f b (g ∷ gs) h = (rw (value_under-assigned fs f b g.lo, value_under-assigned fs f b g.hi) (h g (inl refl)), meets_each fs f b gs (λ k i. h k (inr i)))
 
--- ---- where s does not reach t, some assignment puts t below s
+-- ---- where s does not reach t, some valuation puts t below s
 module _ (fs : List Fact) (o : IsOrderly fs) (s : Node) where
   -- what s reaches is as high as it may be, and the rest as low
   apart : Node → ℤ
@@ -92,9 +92,9 @@ module _ (fs : List Fact) (o : IsOrderly fs) (s : Node) where
       go (inr a) (inl b) = rw (a, b) (low-high fs o g.lo g.hi e)
       go (inr a) (inr b) = rw (a, b) (low-mono fs g.lo g.hi e)
 
-  pub counter : (t : Node) → reaches fs s t ≡ false → (v : Assignment) × IsOfI64 v × MeetsEach v fs × (value_under v s ≤ℤ value_under v t → ⊥)
+  pub counter : (t : Node) → reaches fs s t ≡ false → (v : Valuation) × IsValuationOfI64 v × MeetsEach v fs × (value_under v s ≤ℤ value_under v t → ⊥)
   unfolding apart
-  counter t unreached = (assigned apart, IsOfI64-assigned fs apart apart-between, meets_each fs apart apart-between fs apart-meets, against)
+  counter t unreached = (assigned apart, IsValuationOfI64-assigned fs apart apart-between, meets_each fs apart apart-between fs apart-meets, against)
     where
       at_s : apart s ≡ high_of fs s
       at_s = rw (reaches-refl fs s) refl
@@ -126,17 +126,17 @@ sampled-meets fs o = meets_each fs (sampled fs) (sampled-between fs o) fs each
     each g i = larger-mono _ _ _ _ (low-mono fs g.lo g.hi (reaches-fact fs g i)) (smaller-mono _ _ _ _ (high-mono fs g.lo g.hi (reaches-fact fs g i)) (≤ℤ_refl _))
 
 -- ---- in the words of the specification
-MeetsEach-from_Meets : (v : Assignment) (fs : List Fact) → Meets v fs → MeetsEach v fs
+MeetsEach-from_Meets : (v : Valuation) (fs : List Fact) → Meets v fs → MeetsEach v fs
 MeetsEach-from_Meets v [] m = tt
 MeetsEach-from_Meets v (f ∷ fs) m = (All-head (λ g. value_under v g.lo ≤ℤ value_under v g.hi) f fs m, MeetsEach-from_Meets v fs (All-tail (λ g. value_under v g.lo ≤ℤ value_under v g.hi) f fs m))
 
-pub Meets-from_MeetsEach : (v : Assignment) (fs : List Fact) → MeetsEach v fs → Meets v fs
+pub Meets-from_MeetsEach : (v : Valuation) (fs : List Fact) → MeetsEach v fs → Meets v fs
 Meets-from_MeetsEach v [] m = All-nil (λ g. value_under v g.lo ≤ℤ value_under v g.hi)
 Meets-from_MeetsEach v (f ∷ fs) m = All-cons (λ g. value_under v g.lo ≤ℤ value_under v g.hi) f fs m.0 (Meets-from_MeetsEach v fs m.1)
 
 -- consistent is orderly
 pub IsConsistent-from_orderly : (fs : List Fact) → IsOrderly fs → IsConsistent fs
-IsConsistent-from_orderly fs o = (assigned (sampled fs), IsOfI64-assigned fs (sampled fs) (sampled-between fs o), Meets-from_MeetsEach _ fs (sampled-meets fs o))
+IsConsistent-from_orderly fs o = (assigned (sampled fs), IsValuationOfI64-assigned fs (sampled fs) (sampled-between fs o), Meets-from_MeetsEach _ fs (sampled-meets fs o))
 
 pub orderly_from_IsConsistent : (fs : List Fact) → IsConsistent fs → IsOrderly fs
 orderly_from_IsConsistent fs c j k e = reaches-sound c.0 c.1 fs (MeetsEach-from_Meets c.0 fs c.2) (Number j) (Number k) e

@@ -8,42 +8,42 @@ use Rattle.order_facts.specs.declared.steps.Fact.{Fact}
 -- ---- entailment
 
 -- a number for each parameter and each unknown of both sides
-pub record Assignment : Type 0 where
+pub record Valuation : Type 0 where
   pub mine : ℕ → ℤ
   pub mine_unknown : ℕ → ℤ
   pub theirs : ℕ → ℤ
   pub theirs_unknown : ℕ → ℤ
 
--- each of an assignment's numbers is an i64
-pub record IsOfI64 (v : Assignment) : Type 0 where
+-- each of a valuation's numbers is an i64
+pub record IsValuationOfI64 (v : Valuation) : Type 0 where
   pub mine : (i : ℕ) → IsI64 (v.mine i)
   pub mine_unknown : (i : ℕ) → IsI64 (v.mine_unknown i)
   pub theirs : (i : ℕ) → IsI64 (v.theirs i)
   pub theirs_unknown : (i : ℕ) → IsI64 (v.theirs_unknown i)
 
--- what a node is under an assignment
-abbrev pub value_under : Assignment → Node → ℤ
+-- what a node is under a valuation
+abbrev pub value_under : Valuation → Node → ℤ
 value_under v (Mine i) = v.mine i
 value_under v (MineUnknown i) = v.mine_unknown i
 value_under v (Theirs i) = v.theirs i
 value_under v (TheirsUnknown i) = v.theirs_unknown i
 value_under v (Number k) = k
 
--- an assignment meets a list of facts: each fact's lower node is at most its upper one
-abbrev pub Meets : Assignment → List Fact → Type 0
+-- a valuation meets a list of facts: each fact's lower node is at most its upper one
+abbrev pub Meets : Valuation → List Fact → Type 0
 Meets v facts = All (λ f. value_under v f.lo ≤ℤ value_under v f.hi) facts
 
--- every assignment of i64 that meets all facts gives `x` at most what it gives `y`
+-- every valuation of i64 that meets all facts gives `x` at most what it gives `y`
 abbrev pub Entails : List Fact → Node → Node → Type 0
-Entails facts x y = (v : Assignment) → IsOfI64 v → Meets v facts → value_under v x ≤ℤ value_under v y
+Entails facts x y = (v : Valuation) → IsValuationOfI64 v → Meets v facts → value_under v x ≤ℤ value_under v y
 
 -- and `y` at most what it gives `x`
 abbrev pub ForcesEqual : List Fact → Node → Node → Type 0
 ForcesEqual facts x y = Entails facts x y × Entails facts y x
 
--- some assignment of i64 meets all facts
+-- some valuation of i64 meets all facts
 abbrev pub IsConsistent : List Fact → Type 0
-IsConsistent facts = (v : Assignment) × IsOfI64 v × Meets v facts
+IsConsistent facts = (v : Valuation) × IsValuationOfI64 v × Meets v facts
 
 -- ---- chains
 

@@ -4,7 +4,7 @@ use Rattle.order_facts.specs.declared.steps.Node.{Node}
 use Rattle.order_facts.specs.declared.steps.Node.TheVariants.{Mine, MineUnknown, Theirs, TheirsUnknown, Number}
 use Rattle.order_facts.specs.declared.steps.Fact.{Fact}
 use Rattle.order_facts.specs.declared.sample.Choice.{Choice}
-use Rattle.order_facts.specs.Chain.{Entails, Assignment}
+use Rattle.order_facts.specs.Chain.{Entails, Valuation}
 use Rattle.order_facts.specs.Reaches.{is_same_unknown}
 
 -- the number of the first choice of the node, or 0
@@ -17,9 +17,9 @@ abbrev pub sample_number : List Choice → Node → ℤ
 sample_number choices (Number k) = k
 sample_number choices node = chosen choices node
 
--- a sample as an assignment
-abbrev pub assignment_of : List Choice → Assignment
-assignment_of choices =
+-- a sample as a valuation
+abbrev pub valuation_of : List Choice → Valuation
+valuation_of choices =
     record { mine = λ i. sample_number choices (Mine i); mine_unknown = λ i. sample_number choices (MineUnknown i); theirs = λ i. sample_number choices (Theirs i); theirs_unknown = λ i. sample_number choices (TheirsUnknown i) }
 
 -- the greatest number that the facts force below the node

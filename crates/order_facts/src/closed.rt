@@ -2,8 +2,8 @@
 
 ghost use Rattle.std.specs.Prelude.{◌≡◌, ◌↔◌, ◌≤◌, List, false, length, IfOk, IfSome, IfNone, IsSome, IsNone, IsTrue};
 ghost use Rattle.order_facts.specs.declared.steps.Node.{Node};
-ghost use Rattle.order_facts.specs.Chain.{Entails, ForcesEqual, IsConsistent, IsOfI64, Meets, HasContradiction, IsChain, IsTight, RunsBetween};
-ghost use Rattle.order_facts.specs.Sample.{sample_number, assignment_of, IsSampled};
+ghost use Rattle.order_facts.specs.Chain.{Entails, ForcesEqual, IsConsistent, IsValuationOfI64, Meets, HasContradiction, IsChain, IsTight, RunsBetween};
+ghost use Rattle.order_facts.specs.Sample.{sample_number, valuation_of, IsSampled};
 
 use crate::matrix::matrix_of;
 use crate::sample::Sample;
@@ -58,7 +58,7 @@ impl Closed {
         })
     }
 
-    /// Whether some assignment of i64 meets all facts.
+    /// Whether some valuation of i64 meets all facts.
     pub fn consistent(&self) -> bool
         ensures consistent { IsTrue result ↔ IsConsistent self.now }
         ensures contradiction { result ≡ false → HasContradiction self.now }
@@ -66,14 +66,14 @@ impl Closed {
         self.consistent
     }
 
-    /// Whether every assignment of i64 that meets all facts gives `x` at most what it gives `y`.
+    /// Whether every valuation of i64 that meets all facts gives `x` at most what it gives `y`.
     pub fn entails(&self, x: Node, y: Node) -> bool
         ensures { IsTrue result ↔ Entails self.now x y }
     {
         !self.consistent || reaches(self.facts.as_slice(), &self.matrix, x, y)
     }
 
-    /// Whether every assignment of i64 that meets all facts gives both the same.
+    /// Whether every valuation of i64 that meets all facts gives both the same.
     pub fn forces_equal(&self, x: Node, y: Node) -> bool
         ensures { IsTrue result ↔ ForcesEqual self.now x y }
     {
@@ -103,13 +103,13 @@ impl Closed {
     }
 
     /// For each node the number nearest to 0 between the bounds that the facts force, where some
-    /// assignment meets them.
+    /// valuation meets them.
     pub fn sample(&self) -> Result<Option<Sample>, AllocError>
         ensures none { IfOk result (λ found. IsNone found ↔ ¬ IsConsistent self.now) }
         ensures nearest { IfOk result (λ found. IfSome found
             (λ s. (n : Node) → IsSampled self.now n (sample_number s n))) }
         ensures meets { IfOk result (λ found. IfSome found
-            (λ s. IsOfI64 (assignment_of s) × Meets (assignment_of s) self.now)) }
+            (λ s. IsValuationOfI64 (valuation_of s) × Meets (valuation_of s) self.now)) }
     {
         if !self.consistent {
             return Ok(None);

@@ -2,7 +2,7 @@
 //! and numbers force.
 //!
 //! `Facts` collects the facts, and `close` finds once what they entail. A `Closed` then answers
-//! whether some assignment of i64 meets the facts, whether they put one node at most another, by
+//! whether some valuation of i64 meets the facts, whether they put one node at most another, by
 //! which chain, and with which sample. Who has the facts in a slice closes it by `Closed::of` and
 //! asks `is_chain` of a chain, as the program does. Where one node is said to be below another, it
 //! is at most it.

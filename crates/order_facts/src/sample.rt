@@ -1,12 +1,12 @@
-//! An assignment that meets the facts, each node as near to 0 as it can be.
+//! A valuation that meets the facts, each node as near to 0 as it can be.
 
 ghost use Rattle.std.specs.Prelude.{◌≡◌, ◌↔◌, ◌≤◌, ℤ, ◌≤ℤ◌, ℕ, ◌<◌, length, true, false, All, IfOk, OnOk, IsTrue};
 ghost use Rattle.order_facts.specs.declared.steps.Node.{Node};
 ghost use Rattle.order_facts.specs.declared.steps.Node.TheVariants.{Number};
-ghost use Rattle.order_facts.specs.Chain.{IsConsistent, IsOfI64, Meets};
+ghost use Rattle.order_facts.specs.Chain.{IsConsistent, IsValuationOfI64, Meets};
 ghost use Rattle.order_facts.specs.Reaches.{reaches};
 ghost use Rattle.order_facts.specs.Matrix.{IsMatrixOf};
-ghost use Rattle.order_facts.specs.Sample.{sample_number, assignment_of, IsSampled, HasChoice};
+ghost use Rattle.order_facts.specs.Sample.{sample_number, valuation_of, IsSampled, HasChoice};
 
 use crate::square::Square;
 use crate::steps::{Fact, Node, highest, is_same, lowest};
@@ -108,14 +108,14 @@ fn choose(
 }
 
 impl Sample {
-    /// The sample of facts that some assignment meets.
+    /// The sample of facts that some valuation meets.
     pub(crate) fn of(alloc: Global, facts: &[Fact], matrix: &Square) -> Result<Sample, AllocError>
         requires matrix { IsMatrixOf matrix.now facts.now facts.now }
         requires consistent { IsConsistent facts.now }
         ensures nearest { IfOk result
             (λ s. (n : Node) → IsSampled facts.now n (sample_number s n)) }
         ensures meets { IfOk result
-            (λ s. IsOfI64 (assignment_of s) × Meets (assignment_of s) facts.now) }
+            (λ s. IsValuationOfI64 (valuation_of s) × Meets (valuation_of s) facts.now) }
     {
         let mut choices = Vec::with_capacity(alloc, facts.len())?;
         for fact in facts {

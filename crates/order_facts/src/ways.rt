@@ -74,7 +74,7 @@ fn row_is_orderly(facts: &[Fact], matrix: &Square, from: usize) -> bool
     true
 }
 
-/// Whether the facts put no node below one that is surely less: whether some assignment meets them.
+/// Whether the facts put no node below one that is surely less: whether some valuation meets them.
 pub fn is_orderly(facts: &[Fact], matrix: &Square) -> bool
     requires { IsMatrixOf matrix.now facts.now facts.now }
     ensures consistent { IsTrue result ↔ IsConsistent facts.now }

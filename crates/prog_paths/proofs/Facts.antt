@@ -119,10 +119,10 @@ pub law_of_meeting : LawOfMeeting
 law_of_meeting mine theirs table single v w = (meet-from_Meets v w mine theirs table single, Meets-from_meet v w mine theirs single)
 
 -- an assignment of both sides, taken apart
-abbrev of_mine : facts.Assignment → Assignment
+abbrev of_mine : facts.Valuation → Assignment
 of_mine u = record { parameter = u.mine; unknown = u.mine_unknown }
 
-abbrev of_theirs : facts.Assignment → Assignment
+abbrev of_theirs : facts.Valuation → Assignment
 of_theirs u = record { parameter = u.theirs; unknown = u.theirs_unknown }
 
 pub law_of_consistency : LawOfConsistency
@@ -156,7 +156,7 @@ law_of_equal_terms mine theirs table single s t = (equal, entailed)
   where
     equal : EntailsEqual mine theirs s t → (v w : Assignment) → MeetsUnder v w mine theirs → number_under v s ≡ number_under w t
     equal e v w m =
-        let of_i64 : facts.IsOfI64 (both v w) = record {
+        let of_i64 : facts.IsValuationOfI64 (both v w) = record {
           mine = m.mine_of_i64.parameter;
           mine_unknown = m.mine_of_i64.unknown;
           theirs = m.theirs_of_i64.parameter;
@@ -168,7 +168,7 @@ law_of_equal_terms mine theirs table single s t = (equal, entailed)
         omega (arith, ints)
 
     same : ((v w : Assignment) → MeetsUnder v w mine theirs → number_under v s ≡ number_under w t)
-        → (u : facts.Assignment) → facts.IsOfI64 u → facts.Meets u (question_facts mine theirs) → number_under (of_mine u) s ≡ number_under (of_theirs u) t
+        → (u : facts.Valuation) → facts.IsValuationOfI64 u → facts.Meets u (question_facts mine theirs) → number_under (of_mine u) s ≡ number_under (of_theirs u) t
     same h u o m = h (of_mine u) (of_theirs u) (record {
       mine_of_i64 = record { parameter = o.mine; unknown = o.mine_unknown };
       theirs_of_i64 = record { parameter = o.theirs; unknown = o.theirs_unknown };

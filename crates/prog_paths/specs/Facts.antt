@@ -56,8 +56,8 @@ facts_held (TwoColumns facts) = facts
 
 -- ---- the laws
 
--- the assignments of both sides as one
-abbrev pub both : Assignment → Assignment → facts.Assignment
+-- the assignments of both sides as one valuation
+abbrev pub both : Assignment → Assignment → facts.Valuation
 both v w = record { mine = v.parameter; mine_unknown = v.unknown; theirs = w.parameter; theirs_unknown = w.unknown }
 
 -- a pair of assignments makes an access and a single cell of its table meet just where it meets all facts of the two

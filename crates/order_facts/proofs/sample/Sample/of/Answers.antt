@@ -1,5 +1,5 @@
 use Rattle.std.proofs.Common.{arith}
-use Rattle.order_facts.proofs.Choices.{IsSampled-sample_number, IsOfI64-assignment_of, Meets-assignment_of}
+use Rattle.order_facts.proofs.Choices.{IsSampled-sample_number, IsValuationOfI64-valuation_of, Meets-valuation_of}
 use Rattle.order_facts.proofs.sample.Sample.of.Goals as goal
 
 pub returns-clause-nearest : goal.returns-clause-nearest
@@ -10,4 +10,4 @@ returns-clause-meets c =
     let fs = c.args.facts.now in
     let choices = c.loop-fact.choices.items in
     let s = IsSampled-sample_number fs choices c.requires.consistent c.loop-fact.invariant.sampled (λ k h. c.loop-fact.invariant.ends k (omega arith)) in
-    (IsOfI64-assignment_of fs choices s, Meets-assignment_of fs choices s)
+    (IsValuationOfI64-valuation_of fs choices s, Meets-valuation_of fs choices s)
