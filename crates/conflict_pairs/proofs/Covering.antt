@@ -39,6 +39,12 @@ IsShortest-from_fewest facts from to (a ∷ rest) r fewest x y other s o =
     let last = sym s.1 ∙ r.1 in
     fewest other o.0 (subst (λ (n : Node). RunsBetween n to other) first (subst (λ (n : Node). RunsBetween x n other) last o.1))
 
+-- no chain between two nodes that are not one has fewer than two
+pub two-fewest : (from to : Node) → (from ≡ to → ⊥) → (other : List Node) → RunsBetween from to other → 2 ≤ length other
+two-fewest from to apart [] r = absurd r
+two-fewest from to apart (a ∷ []) r = absurd (apart (sym r.0 ∙ r.1))
+two-fewest from to apart (a ∷ b ∷ rest) r = omega arith
+
 -- two more chains
 pub shortest-two : (facts : List Fact) (old mid new : List (List Node)) (there back : List Node) → mid ≡ old ++ there ∷ [] → new ≡ mid ++ back ∷ [] → IsShortest facts there → IsShortest facts back → All (IsShortest facts) old → All (IsShortest facts) new
 shortest-two facts old mid new there back first second s t h =

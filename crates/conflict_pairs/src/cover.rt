@@ -1,6 +1,6 @@
 //! Pairs of accesses that cover a question.
-ghost use Rattle.std.specs.Prelude.{◌≡◌, ◌↔◌, ◌<◌, ◌++◌, [], ◌∷◌, ℕ, List, All, IfOk, OnOk, IfSome, IfNone, IsTrue, Some, slice_get};
-ghost use Rattle.order_facts.specs.Chain.{Entails, IsConsistent};
+ghost use Rattle.std.specs.Prelude.{◌≡◌, ◌≢◌, ◌↔◌, ◌<◌, ◌++◌, [], ◌∷◌, ℕ, List, All, IfOk, OnOk, IfSome, IfNone, IsTrue, Some, slice_get};
+ghost use Rattle.order_facts.specs.Chain.{Entails, IsConsistent, IsStep};
 ghost use Rattle.prog_check.specs.declared.path.Access.{Access};
 ghost use Rattle.prog_check.specs.declared.path.Term.{Term};
 ghost use Rattle.prog_paths.specs.Kinds.{option_items};
@@ -75,13 +75,30 @@ pub fn least_cover(closed: &Closed, mine: &[Access], theirs: &[Access]) -> Optio
     None
 }
 
-/// A shortest chain between two nodes of which the facts put the first at most the second.
+fn is_same_node(one: Node, other: Node) -> bool
+    ensures { IsTrue result ↔ (one ≡ other) }
+{
+    one == other
+}
+
+/// Whether the facts put a node at most another one in one step.
+fn is_one_step(closed: &Closed, from: Node, to: Node) -> bool
+    ensures { IsTrue result → (from ≢ to) × IsStep closed.now from to }
+{
+    !is_same_node(from, to) && closed.has_step(from, to)
+}
+
+/// A shortest chain between two nodes of which the facts put the first at most the second. One of
+/// a single step takes no memory.
 fn chain_between(closed: &Closed, from: Node, to: Node) -> Result<Chain, AllocError>
     requires consistent { IsConsistent closed.now }
     requires entailed { Entails closed.now from to }
     ensures runs { IfOk result (λ chain. Runs closed.now from to chain) }
     ensures shortest { IfOk result (λ chain. IsShortest closed.now chain) }
 {
+    if is_one_step(closed, from, to) {
+        return Ok(Chain::of_two(from, to));
+    }
     match closed.chain(from, to)? {
         Some(nodes) => Ok(Chain::from_vec(nodes)),
         None => unreachable!(),

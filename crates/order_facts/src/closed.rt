@@ -2,14 +2,14 @@
 
 ghost use Rattle.std.specs.Prelude.{◌≡◌, ◌↔◌, ◌≤◌, List, false, length, IfOk, IfSome, IfNone, IsSome, IsNone, IsTrue};
 ghost use Rattle.order_facts.specs.declared.steps.Node.{Node};
-ghost use Rattle.order_facts.specs.Chain.{Entails, ForcesEqual, IsConsistent, IsValuationOfI64, Meets, HasContradiction, IsChain, IsTight, RunsBetween};
+ghost use Rattle.order_facts.specs.Chain.{Entails, ForcesEqual, IsConsistent, IsValuationOfI64, Meets, HasContradiction, IsChain, IsTight, IsStep, RunsBetween};
 ghost use Rattle.order_facts.specs.Sample.{sample_number, valuation_of, IsSampled};
 
 use crate::matrix::matrix_of;
 use crate::sample::Sample;
 use crate::search::shortest_chain;
 use crate::square::Square;
-use crate::steps::{Fact, Node};
+use crate::steps::{Fact, Node, is_step};
 use crate::ways::{is_orderly, reaches};
 use smallvec::SmallVec;
 use std::alloc::{AllocError, Global};
@@ -78,6 +78,13 @@ impl Closed {
         ensures { IsTrue result ↔ ForcesEqual self.now x y }
     {
         self.entails(x, y) && self.entails(y, x)
+    }
+
+    /// Whether `y` may stand behind `x` in a chain.
+    pub fn has_step(&self, x: Node, y: Node) -> bool
+        ensures { IsTrue result ↔ IsStep self.now x y }
+    {
+        is_step(self.facts.as_slice(), x, y)
     }
 
     /// A chain from `x` to `y` with the fewest nodes, where there is one.
