@@ -14,7 +14,7 @@ pub use book::Book;
 pub use fault::{
     BeginFault, CommitFault, Difference, EndFault, NoSuchTicket, OwnCommitFault, ScanFault, Unused,
 };
-pub use instances::row::{Ending, HistoryRow};
+pub use instances::row::{Ending, HistoryRow, same_numbers};
 pub use instances::ticket::{Receipt, Ticket};
 pub use laws::{
     clashes_name_a_commit, commits_are_what_the_instances_write, dependencies_are_of_instances,

@@ -10,7 +10,7 @@ use crate::counts::Counts;
 use crate::job::{Job, JobEnd};
 use crate::keys::CallKey;
 use crate::told::Tiding;
-use history_book::{BeginFault, Book, Ending, HistoryRow, MAX_ENDINGS};
+use history_book::{BeginFault, Book, Ending, HistoryRow, MAX_ENDINGS, same_numbers};
 use std::alloc::{AllocError, Global};
 
 // So many endings let a begin be refused as full while all other workers are active.
@@ -21,12 +21,6 @@ fn nearly_full(workers: usize) -> usize
 }
 
 // ---- one outcome
-
-fn same_numbers(numbers: &[i64], others: &[i64]) -> bool
-    ensures { IsTrue result ↔ (numbers.now ≡ others.now) }
-{
-    numbers == others
-}
 
 fn is_record_of(row: &HistoryRow, job: &Job, replies: &[i64]) -> bool
     ensures { IsTrue result ↔ IsRecordOf job.now replies.now row.now }

@@ -3,7 +3,7 @@
 use crate::book::audits::{Record, fault_of};
 use crate::book::sets::{LOOK, NO_PROGRAM, REGISTERS, SET, STOP, cell};
 use example_sets::set_of;
-use history_book::{AuditFault, Clash, RowFault};
+use history_book::{AuditFault, Clash, RowFault, same_numbers};
 use prog_check::ProgramSet;
 use std::alloc::Global;
 use std::process::Abort;
@@ -38,4 +38,13 @@ fn the_first_fault_of_a_row_is_told(rt: HostRuntime) -> Result<(), Fail> {
     }
     drop(set);
     Ok(())
+}
+
+#[test]
+fn numbers_are_the_same_one_by_one(rt: HostRuntime) {
+    let others: [&[i64]; 5] = [&[], &[1], &[1, 5, 0], &[1, 6], &[5, 1]];
+    assert!(rt; same_numbers(&[1, 5], &[1, 5]));
+    for other in others {
+        assert!(rt; !same_numbers(&[1, 5], other));
+    }
 }

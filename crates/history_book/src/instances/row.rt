@@ -27,8 +27,8 @@ pub enum Ending {
     Aborted { row: HistoryRow, cause: Cause },
 }
 
-/// Whether both are the same numbers.
-pub(crate) fn same_numbers(numbers: &[i64], others: &[i64]) -> bool
+/// Whether both are the same numbers: arguments, or replies.
+pub fn same_numbers(numbers: &[i64], others: &[i64]) -> bool
     ensures { IsTrue result ↔ (numbers.now ≡ others.now) }
 {
     numbers == others
