@@ -104,10 +104,10 @@ times-here xs k h = times-some (get_or xs k 0) (drop k xs) (rw (drop_more xs k 0
 
 -- ---- marks
 
-pub mark-push : (old cur marked : List ℕ) (p number : ℕ) → p < length cur
+pub write-push : (old cur marked : List ℕ) (p number : ℕ) → p < length cur
     → ((n : ℕ) → get_or cur n 0 ≡ (if is_one_of marked n then number else get_or old n 0))
     → (n : ℕ) → get_or (set cur p number) n 0 ≡ (if is_one_of (marked ++ p ∷ []) n then number else get_or old n 0)
-mark-push old cur marked p number within is n = rw (one-push marked p n) (go (cases_Bool (is_one_of marked n)) (eqb_tells p n))
+write-push old cur marked p number within is n = rw (one-push marked p n) (go (cases_Bool (is_one_of marked n)) (eqb_tells p n))
   where
     go : Either (is_one_of marked n) → Same p n
         → get_or (set cur p number) n 0 ≡ (if is_one_of marked n || p == n then number else get_or old n 0)
@@ -116,11 +116,11 @@ mark-push old cur marked p number within is n = rw (one-push marked p n) (go (ca
     go (inl o) (inr e) = rw o (get_or-set_other cur p n number 0 (λ s. e.1 (sym s)) ∙ rw o at (is n))
     go (inr o) (inr e) = rw (o, e.0) (get_or-set_other cur p n number 0 (λ s. e.1 (sym s)) ∙ rw o at (is n))
 
-pub mark-step : (old cur places : List ℕ) (i number : ℕ) → i < length places → get_or places i 0 < length cur
+pub write-step : (old cur places : List ℕ) (i number : ℕ) → i < length places → get_or places i 0 < length cur
     → ((n : ℕ) → get_or cur n 0 ≡ (if is_one_of (take i places) n then number else get_or old n 0))
     → (n : ℕ) → get_or (set cur (get_or places i 0) number) n 0 ≡ (if is_one_of (take (i + 1) places) n then number else get_or old n 0)
-mark-step old cur places i number inside within is n =
-    rw (take_more places i 0 inside) (mark-push old cur (take i places) (get_or places i 0) number within is n)
+write-step old cur places i number inside within is n =
+    rw (take_more places i 0 inside) (write-push old cur (take i places) (get_or places i 0) number within is n)
 
 -- ---- the keys of a set
 

@@ -6,7 +6,7 @@ use Rattle.prog_tree.specs.declared.cell.Cell.{Cell}
 use Rattle.prog_tree.specs.declared.cell.Region.{Region}
 use Rattle.prog_tree.specs.Table.{Cells, is_in, is_cell_among}
 use Rattle.prog_tree.specs.Corners.{is_between, AreCorners}
-use Rattle.history_book.specs.Reduced.{Pairs, AddsPairs, RiseFrom, AreWithin, AllRiseWithin, steps_of, writers_steps, reader_pairs, region_pairs}
+use Rattle.history_book.specs.Reduced.{Pairs, AddsPairs, RiseFrom, AreWithin, AllRiseWithin, successive_pairs, writers_pairs, reader_pairs, region_pairs}
 use Rattle.history_book.specs.Traces.{takes_in}
 use Rattle.history_book.specs.declared.orders.trace.Sight.TheVariants as sight
 use Rattle.history_book.proofs.PairLaws.{Walk, walk_begins, walk_on}
@@ -21,10 +21,10 @@ module _ (old : List (List ℕ)) (n : ℕ) where
       let here : All P ((k, ws) ∷ rest) = subst (λ (es : Cells (List ℕ)). All P es) is all in
       (All-head P (k, ws) rest here, All-tail P (k, ws) rest here)
 
-  pub steps_on : (all : Pairs) (now next : List (List ℕ)) (left rest : Cells (List ℕ)) (k : Cell) (ws : List ℕ) → left ≡ (k, ws) ∷ rest →
-      Both (writers_steps left) all old now n left → AddsPairs (steps_of ws) now next → Both (writers_steps rest) all old next n rest
-  steps_on all now next left rest k ws is so_far adds =
-      (walk_on (writers_steps left) (steps_of ws) (writers_steps rest) all old now next (ap writers_steps is) so_far.0 adds, (entry_first left rest k ws is so_far.1).1)
+  pub successive_on : (all : Pairs) (now next : List (List ℕ)) (left rest : Cells (List ℕ)) (k : Cell) (ws : List ℕ) → left ≡ (k, ws) ∷ rest →
+      Both (writers_pairs left) all old now n left → AddsPairs (successive_pairs ws) now next → Both (writers_pairs rest) all old next n rest
+  successive_on all now next left rest k ws is so_far adds =
+      (walk_on (writers_pairs left) (successive_pairs ws) (writers_pairs rest) all old now next (ap writers_pairs is) so_far.0 adds, (entry_first left rest k ws is so_far.1).1)
 
   module _ (reader start : ℕ) (region : Region) (own : List Cell) where
     pub region_on : (b : Bool) (all : Pairs) (now next : List (List ℕ)) (left rest : Cells (List ℕ)) (k : Cell) (ws : List ℕ) → left ≡ (k, ws) ∷ rest →

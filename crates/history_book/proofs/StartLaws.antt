@@ -35,7 +35,7 @@ not_above a b low = go (nat_lt b.start a.start) refl
         let greater : nat_cmp a.start b.start ≡ Greater = sym (nat_cmp_is a.start b.start Greater (lt_told b.start a.start up)) in
         absurd (true≢false (sym (ap (λ o. is_gt (ordering_then o (nat_cmp a.number b.number))) greater) ∙ low))
 
--- ---- the beginning of an active instance
+-- ---- the start of an active instance
 
 abbrev start_of : Entry → InstanceStart
 start_of e = record { start = e.1.start; number = e.0 }
@@ -64,7 +64,7 @@ of_other e es b sorted is = go (nat_cmp b.number e.0) refl
 
 -- ---- the least start
 
--- it is at most that of each beginning
+-- it is at most each start
 least_at_most : (n : ℕ) (es : List Entry) (b : InstanceStart) → is_start_of es b ≡ true → least_start n es ≤ b.start
 least_at_most n [] b is = absurd (cc)
 least_at_most n (e ∷ es) b is = go (is_at (nat_cmp b.number) e.0) (least_at_most n es b) is
@@ -78,7 +78,7 @@ least_at_most n (e ∷ es) b is = go (is_at (nat_cmp b.number) e.0) (least_at_mo
     go true rest found = here (e.1.start == b.start) refl found
     go false rest found = omega (arith, rest found)
 
--- it is at least what no beginning is below
+-- it is at least what no start is below
 least_at_least : (n : ℕ) (es : List Entry) (start : ℕ) → IsStrictlySortedBy nat_cmp (keys_of es) → ((b : InstanceStart) → is_start_of es b ≡ true → start ≤ b.start) →
     min start n ≤ least_start n es
 least_at_least n [] start sorted low = omega arith
@@ -88,31 +88,31 @@ least_at_least n (e ∷ es) start sorted low =
     least_at_least n es start (sorted_tail nat_cmp e.0 (keys_of es) sorted) (λ (b : InstanceStart) is. low b (of_other e es b sorted is)) in
     omega (arith, here, rest)
 
--- the first of the beginnings has it
-pub least_of_first : (n : ℕ) (active : List Entry) (beginnings : BTreeSet InstanceStart) (first : InstanceStart) → AreStarts active beginnings →
-    IsTrue (contains instance_start_cmp beginnings first) → IsLowerBound instance_start_cmp beginnings first → min first.start n ≡ least_start n active
-least_of_first n active beginnings first are among lowest =
+-- the first of the starts has it
+pub least_of_first : (n : ℕ) (active : List Entry) (starts : BTreeSet InstanceStart) (first : InstanceStart) → AreStarts active starts →
+    IsTrue (contains instance_start_cmp starts first) → IsLowerBound instance_start_cmp starts first → min first.start n ≡ least_start n active
+least_of_first n active starts first are among lowest =
     let upper : least_start n active ≤ first.start = least_at_most n active first (sym (are.same first) ∙ among) in
     let lower : min first.start n ≤ least_start n active =
     least_at_least n active first.start are.ordered (λ (b : InstanceStart) is. not_above first b (lowest b (are.same b ∙ is))) in
     omega (arith, upper, lower, least-within n active)
 
--- where there is no beginning, no instance is active
-pub least_of_none : (n : ℕ) (active : List Entry) (beginnings : BTreeSet InstanceStart) → AreStarts active beginnings → (0 < length beginnings.keys → ⊥) → n ≡ least_start n active
-least_of_none n active beginnings are none = go active are
+-- where there is no start, no instance is active
+pub least_of_none : (n : ℕ) (active : List Entry) (starts : BTreeSet InstanceStart) → AreStarts active starts → (0 < length starts.keys → ⊥) → n ≡ least_start n active
+least_of_none n active starts are none = go active are
   where
     empty : (ks : List InstanceStart) → (0 < length ks → ⊥) → ks ≡ []
     empty [] few = refl
     empty (k ∷ ks) few = absurd (few (omega arith))
 
-    go : (es : List Entry) → AreStarts es beginnings → n ≡ least_start n es
+    go : (es : List Entry) → AreStarts es starts → n ≡ least_start n es
     go [] these = refl
     go (e ∷ es) these =
-        let nothing : contains instance_start_cmp beginnings (start_of e) ≡ false =
-        ap (λ ks. list_any (is_at (instance_start_cmp (start_of e))) ks) (empty beginnings.keys none) in
+        let nothing : contains instance_start_cmp starts (start_of e) ≡ false =
+        ap (λ ks. list_any (is_at (instance_start_cmp (start_of e))) ks) (empty starts.keys none) in
         absurd (true≢false (sym (these.same (start_of e) ∙ of_first e es) ∙ nothing))
 
--- ---- a beginning that is taken back
+-- ---- a start that is taken back
 
 pub taken_back :
     (active after : List Entry) (before added left : BTreeSet InstanceStart) (b : InstanceStart) → AreStarts active before → lookup (is_at (nat_cmp b.number)) active ≡ None →

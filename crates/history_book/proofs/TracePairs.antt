@@ -13,7 +13,7 @@ use Rattle.prog_tree.specs.Table.{cell_cmp, Cells, cells_of, at_cell, is_same_ce
 use Rattle.prog_tree.proofs.CellSets.{same-itself, none-behind}
 use Rattle.version_store.proofs.RisingLaws.{rises_more}
 use Rattle.history_book.specs.Orders.{is_one_of, IsUpTo}
-use Rattle.history_book.specs.Reduced.{writers_of, HasWriters, RiseFrom, AreWithin, AllRiseWithin, Pairs, is_pair_among, steps_from, steps_of, writers_steps, last_seen, first_missed, seen_pairs, missed_pairs, reader_pairs, region_pairs, sight_pairs, sights_pairs, readers_pairs}
+use Rattle.history_book.specs.Reduced.{writers_of, HasWriters, RiseFrom, AreWithin, AllRiseWithin, Pairs, is_pair_among, successive_from, successive_pairs, writers_pairs, last_seen, first_missed, seen_pairs, missed_pairs, reader_pairs, region_pairs, sight_pairs, sights_pairs, readers_pairs}
 use Rattle.history_book.specs.TraceView.{TraceView}
 use Rattle.history_book.specs.Traces.{takes_in, looked_at, changed_at, trace_at, SeesEarlier, changes_again, sees_change, trace_depends, no_trace}
 use Rattle.history_book.specs.declared.orders.trace.Sight.{Sight}
@@ -97,22 +97,22 @@ module _ (traces : List TraceView) where
         (any_at (changed_at (trace_at traces j)) (trace_at traces i).changed c (writer_changed traces c i wi) (writer_changed traces c j wj))));
   }
 
-  each_steps : (c : Cell) (w : ℕ) (ws : List ℕ) → IsWriter traces c w → ((v : ℕ) → is_one_of ws v ≡ true → IsWriter traces c v) → RiseFrom (w + 1) ws → Each (steps_from w ws)
-  each_steps c w [] here are rise = tt
-  each_steps c w (v ∷ ws) here are rise =
+  each_successive : (c : Cell) (w : ℕ) (ws : List ℕ) → IsWriter traces c w → ((v : ℕ) → is_one_of ws v ≡ true → IsWriter traces c v) → RiseFrom (w + 1) ws → Each (successive_from w ws)
+  each_successive c w [] here are rise = tt
+  each_successive c w (v ∷ ws) here are rise =
       let next = are v (or_left (v == v) (is_one_of ws v) (eq_itself v)) in
-      (write_after c w v (omega (arith, rise.0)) here next, each_steps c v ws next (λ u h. are u (or_right (v == u) (is_one_of ws u) h)) rise.1)
+      (write_after c w v (omega (arith, rise.0)) here next, each_successive c v ws next (λ u h. are u (or_right (v == u) (is_one_of ws u) h)) rise.1)
 
-  each_steps_of : (c : Cell) (ws : List ℕ) → ((v : ℕ) → is_one_of ws v ≡ true → IsWriter traces c v) → RiseFrom 1 ws → Each (steps_of ws)
-  each_steps_of c [] are rise = tt
-  each_steps_of c (w ∷ ws) are rise =
-      each_steps c w ws (are w (or_left (w == w) (is_one_of ws w) (eq_itself w))) (λ u h. are u (or_right (w == u) (is_one_of ws u) h)) rise.1
+  each_successive_pairs : (c : Cell) (ws : List ℕ) → ((v : ℕ) → is_one_of ws v ≡ true → IsWriter traces c v) → RiseFrom 1 ws → Each (successive_pairs ws)
+  each_successive_pairs c [] are rise = tt
+  each_successive_pairs c (w ∷ ws) are rise =
+      each_successive c w ws (are w (or_left (w == w) (is_one_of ws w) (eq_itself w))) (λ u h. are u (or_right (w == u) (is_one_of ws u) h)) rise.1
 
-  each_writers : (m : Cells (List ℕ)) → OfWriters traces m → Each (writers_steps m)
+  each_writers : (m : Cells (List ℕ)) → OfWriters traces m → Each (writers_pairs m)
   each_writers [] of = tt
   each_writers (e ∷ es) of =
-      each-append (steps_of e.1) (writers_steps es)
-      (subst (λ (ws : List ℕ). Each (steps_of ws)) (sym of.0) (each_steps_of e.0 (writers_of traces e.0) (λ v h. h) (writers_rise 1 traces e.0)))
+      each-append (successive_pairs e.1) (writers_pairs es)
+      (subst (λ (ws : List ℕ). Each (successive_pairs ws)) (sym of.0) (each_successive_pairs e.0 (writers_of traces e.0) (λ v h. h) (writers_rise 1 traces e.0)))
       (each_writers es of.1)
 
   -- ---- readers
@@ -227,9 +227,9 @@ module _ (traces : List TraceView) where
       go (inl s) = (omega arith, omega (arith, s.1))
       go (inr s) = absurd (let none = s.1 in cc)
 
-  pub each_reduced : (m : Cells (List ℕ)) → OfWriters traces m → HasWriters traces m → SeesEarlier traces → Each (writers_steps m ++ readers_pairs m 1 traces)
+  pub each_reduced : (m : Cells (List ℕ)) → OfWriters traces m → HasWriters traces m → SeesEarlier traces → Each (writers_pairs m ++ readers_pairs m 1 traces)
   each_reduced m of has sees =
-      each-append (writers_steps m) (readers_pairs m 1 traces) (each_writers m of)
+      each-append (writers_pairs m) (readers_pairs m 1 traces) (each_writers m of)
       (each_readers m 1 traces (λ i t found.
       let within = upto_by_place i t found in
       let next : 1 + i ≡ suc i = omega arith in

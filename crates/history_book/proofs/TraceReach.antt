@@ -9,7 +9,7 @@ use Rattle.prog_tree.specs.Table.{Cells, at_cell, is_same_cell}
 use Rattle.prog_tree.proofs.TableStates.{cell_is}
 use Rattle.history_book.specs.Orders.{is_one_of, IsUpTo, IsReduced, IsBefore, step, steps}
 use Rattle.history_book.specs.Precedence.{precedes}
-use Rattle.history_book.specs.Reduced.{writers_of, numbers_at, HasWriters, RiseFrom, Pairs, is_pair_among, AddsPairs, steps_from, steps_of, writers_steps, last_seen, first_missed, seen_pairs, missed_pairs, reader_pairs, region_pairs, sight_pairs, sights_pairs, readers_pairs}
+use Rattle.history_book.specs.Reduced.{writers_of, numbers_at, HasWriters, RiseFrom, Pairs, is_pair_among, AddsPairs, successive_from, successive_pairs, writers_pairs, last_seen, first_missed, seen_pairs, missed_pairs, reader_pairs, region_pairs, sight_pairs, sights_pairs, readers_pairs}
 use Rattle.history_book.specs.TraceView.{TraceView}
 use Rattle.history_book.specs.Traces.{takes_in, looked_at, changed_at, trace_at, SeesEarlier, changes_again, sees_change, misses_change, trace_depends, no_trace}
 use Rattle.history_book.specs.declared.orders.trace.Sight.{Sight}
@@ -41,45 +41,45 @@ module _ (before : ℕ → ℕ → Bool) where
   before_trans _ _ k (step i j h) rest = steps i j k h rest
   before_trans _ _ k (steps i m j h more) rest = steps i m k h (before_trans m j k more rest)
 
-  steps_reach : (w : ℕ) (ws : List ℕ) (b : ℕ) → AreAmong (steps_from w ws) before → is_one_of ws b ≡ true → IsBefore before w b
-  steps_reach w [] b are h = absurd (cc)
-  steps_reach w (v ∷ ws) b are h = go (or_cases (v == b) (is_one_of ws b) h) (steps_reach v ws b (λ i j k. are i j (or_right ((i == w) && (j == v)) (is_pair_among (steps_from v ws) i j) k)))
+  successive_reach : (w : ℕ) (ws : List ℕ) (b : ℕ) → AreAmong (successive_from w ws) before → is_one_of ws b ≡ true → IsBefore before w b
+  successive_reach w [] b are h = absurd (cc)
+  successive_reach w (v ∷ ws) b are h = go (or_cases (v == b) (is_one_of ws b) h) (successive_reach v ws b (λ i j k. are i j (or_right ((i == w) && (j == v)) (is_pair_among (successive_from v ws) i j) k)))
     where
       first : before w v ≡ true
-      first = are w v (among_itself w v (steps_from v ws))
+      first = are w v (among_itself w v (successive_from v ws))
 
       go : ((v == b) ≡ true) ⊎ (is_one_of ws b ≡ true) → (is_one_of ws b ≡ true → IsBefore before v b) → IsBefore before w b
       go (inl same) rest = subst (λ n. IsBefore before w n) (eq_told v b same) (step w v first)
       go (inr behind) rest = steps w v b first (rest behind)
 
-  steps_more : (w : ℕ) (ws : List ℕ) (i j : ℕ) → is_pair_among (steps_of ws) i j ≡ true → is_pair_among (steps_from w ws) i j ≡ true
-  steps_more w [] i j h = absurd (cc)
-  steps_more w (v ∷ ws) i j h = or_right ((i == w) && (j == v)) (is_pair_among (steps_from v ws) i j) h
+  successive_more : (w : ℕ) (ws : List ℕ) (i j : ℕ) → is_pair_among (successive_pairs ws) i j ≡ true → is_pair_among (successive_from w ws) i j ≡ true
+  successive_more w [] i j h = absurd (cc)
+  successive_more w (v ∷ ws) i j h = or_right ((i == w) && (j == v)) (is_pair_among (successive_from v ws) i j) h
 
   -- of numbers that rise, with each before the next, a lesser one is before a greater
-  pub chain : (n : ℕ) (ws : List ℕ) (a b : ℕ) → RiseFrom n ws → AreAmong (steps_of ws) before → is_one_of ws a ≡ true → is_one_of ws b ≡ true → a < b → IsBefore before a b
+  pub chain : (n : ℕ) (ws : List ℕ) (a b : ℕ) → RiseFrom n ws → AreAmong (successive_pairs ws) before → is_one_of ws a ≡ true → is_one_of ws b ≡ true → a < b → IsBefore before a b
   chain n [] a b rise are ha hb order = absurd (cc)
   chain n (w ∷ ws) a b rise are ha hb order =
       go (or_cases (w == a) (is_one_of ws a) ha) (or_cases (w == b) (is_one_of ws b) hb)
-      (λ ka kb. chain (w + 1) ws a b rise.1 (λ i j k. are i j (steps_more w ws i j k)) ka kb order)
+      (λ ka kb. chain (w + 1) ws a b rise.1 (λ i j k. are i j (successive_more w ws i j k)) ka kb order)
     where
       go : ((w == a) ≡ true) ⊎ (is_one_of ws a ≡ true) → ((w == b) ≡ true) ⊎ (is_one_of ws b ≡ true) →
           (is_one_of ws a ≡ true → is_one_of ws b ≡ true → IsBefore before a b) → IsBefore before a b
       go (inl sa) (inl sb) rest = absurd (let x : w ≡ a = eq_told w a sa in let y : w ≡ b = eq_told w b sb in omega (arith, x, y, order))
-      go (inl sa) (inr kb) rest = subst (λ n. IsBefore before n b) (eq_told w a sa) (steps_reach w ws b are kb)
+      go (inl sa) (inr kb) rest = subst (λ n. IsBefore before n b) (eq_told w a sa) (successive_reach w ws b are kb)
       go (inr ka) (inl sb) rest = absurd (let up : w + 1 ≤ a = at_least (w + 1) ws a rise.1 ka in let y : w ≡ b = eq_told w b sb in omega (arith, up, y, order))
       go (inr ka) (inr kb) rest = rest ka kb
 
 -- ---- where the pairs of a cell stand
 
-steps_among : (m : Cells (List ℕ)) (c : Cell) (i j : ℕ) → is_pair_among (steps_of (numbers_at m c)) i j ≡ true → is_pair_among (writers_steps m) i j ≡ true
-steps_among [] c i j h = absurd (cc)
-steps_among (e ∷ es) c i j h = go (is_same_cell c e.0) h (steps_among es c i j)
+successive_among : (m : Cells (List ℕ)) (c : Cell) (i j : ℕ) → is_pair_among (successive_pairs (numbers_at m c)) i j ≡ true → is_pair_among (writers_pairs m) i j ≡ true
+successive_among [] c i j h = absurd (cc)
+successive_among (e ∷ es) c i j h = go (is_same_cell c e.0) h (successive_among es c i j)
   where
-    go : (b : Bool) → is_pair_among (steps_of (unwrap_or (cond b (Some e.1) (at_cell es c)) [])) i j ≡ true → (is_pair_among (steps_of (numbers_at es c)) i j ≡ true → is_pair_among (writers_steps es) i j ≡ true) →
-        is_pair_among (steps_of e.1 ++ writers_steps es) i j ≡ true
-    go true here rest = among_first (steps_of e.1) (writers_steps es) i j here
-    go false behind rest = among_second (steps_of e.1) (writers_steps es) i j (rest behind)
+    go : (b : Bool) → is_pair_among (successive_pairs (unwrap_or (cond b (Some e.1) (at_cell es c)) [])) i j ≡ true → (is_pair_among (successive_pairs (numbers_at es c)) i j ≡ true → is_pair_among (writers_pairs es) i j ≡ true) →
+        is_pair_among (successive_pairs e.1 ++ writers_pairs es) i j ≡ true
+    go true here rest = among_first (successive_pairs e.1) (writers_pairs es) i j here
+    go false behind rest = among_second (successive_pairs e.1) (writers_pairs es) i j (rest behind)
 
 module _ (r s : ℕ) (c : Cell) (i j : ℕ) where
   region_among : (region : Region) (own : List Cell) (m : Cells (List ℕ)) → takes_in (sight.Range region own) c ≡ true → is_pair_among (reader_pairs r s (numbers_at m c)) i j ≡ true →
@@ -128,14 +128,14 @@ readers_among m k (u ∷ ts) (suc n) t i j found h =
 
 -- ---- all that the traces say
 
-module _ (traces : List TraceView) (m : Cells (List ℕ)) (has : HasWriters traces m) (before : ℕ → ℕ → Bool) (are : AreAmong (writers_steps m ++ readers_pairs m 1 traces) before) where
+module _ (traces : List TraceView) (m : Cells (List ℕ)) (has : HasWriters traces m) (before : ℕ → ℕ → Bool) (are : AreAmong (writers_pairs m ++ readers_pairs m 1 traces) before) where
   abbrev starts : ℕ → ℕ
   starts r = (trace_at traces r).start
 
   writers_chain : (c : Cell) (a b : ℕ) → IsWriter traces c a → IsWriter traces c b → a < b → IsBefore before a b
   writers_chain c a b wa wb order =
       chain before 1 (writers_of traces c) a b (writers_rise 1 traces c)
-      (λ i j h. are i j (among_first (writers_steps m) (readers_pairs m 1 traces) i j (steps_among m c i j (subst (λ (ws : List ℕ). is_pair_among (steps_of ws) i j ≡ true) (sym (has c)) h)))) wa wb order
+      (λ i j h. are i j (among_first (writers_pairs m) (readers_pairs m 1 traces) i j (successive_among m c i j (subst (λ (ws : List ℕ). is_pair_among (successive_pairs ws) i j ≡ true) (sym (has c)) h)))) wa wb order
 
   -- what a look says stands among the pairs
   reader_stands : (c : Cell) (r i j : ℕ) → IsUpTo (length traces) r → looked_at (trace_at traces r) c ≡ true → is_pair_among (reader_pairs r (starts r) (writers_of traces c)) i j ≡ true → before i j ≡ true
@@ -150,7 +150,7 @@ module _ (traces : List TraceView) (m : Cells (List ℕ)) (has : HasWriters trac
           (subst (λ (ws : List ℕ). is_pair_among (reader_pairs r (starts r) ws) i j ≡ true) (sym (has c)) h) in
           let seen : looked_at t.trace c ≡ true = subst (λ (u : TraceView). looked_at u c ≡ true) same looked in
           let stands = sights_among r t.trace.start c i j m t.trace.looked seen pairs in
-          are i j (among_second (writers_steps m) (readers_pairs m 1 traces) i j
+          are i j (among_second (writers_pairs m) (readers_pairs m 1 traces) i j
           (readers_among m 1 traces t.place t.trace i j t.found (subst (λ n. is_pair_among (sights_pairs n t.trace.start m t.trace.looked) i j ≡ true) (t.is ∙ next) stands)))
 
   -- a writer is before itself or a later writer's followers
@@ -229,18 +229,18 @@ module _ (traces : List TraceView) (m : Cells (List ℕ)) (has : HasWriters trac
 
 pub is_reduced :
     (traces : List TraceView) (m : Cells (List ℕ)) (none chained all : List (List ℕ)) → OfWriters traces m → HasWriters traces m → SeesEarlier traces →
-    ((i j : ℕ) → precedes none i j ≡ false) → AddsPairs (writers_steps m) none chained → AddsPairs (readers_pairs m 1 traces) chained all →
+    ((i j : ℕ) → precedes none i j ≡ false) → AddsPairs (writers_pairs m) none chained → AddsPairs (readers_pairs m 1 traces) chained all →
     IsReduced (length traces) (precedes all) (trace_depends traces)
 is_reduced traces m none chained all of has sees free first second = record {
-  within = λ i j h. (each_told traces (writers_steps m ++ readers_pairs m 1 traces) i j each (sym (just i j) ∙ h)).second;
-  sound = λ i j wi wj h. (each_told traces (writers_steps m ++ readers_pairs m 1 traces) i j each (sym (just i j) ∙ h)).depends;
+  within = λ i j h. (each_told traces (writers_pairs m ++ readers_pairs m 1 traces) i j each (sym (just i j) ∙ h)).second;
+  sound = λ i j wi wj h. (each_told traces (writers_pairs m ++ readers_pairs m 1 traces) i j each (sym (just i j) ∙ h)).depends;
   whole = λ i j wi wj h. told_reaches traces m has (precedes all) (λ a b k. just a b ∙ k) i j wi wj h;
 }
   where
-    each : Each traces (writers_steps m ++ readers_pairs m 1 traces)
+    each : Each traces (writers_pairs m ++ readers_pairs m 1 traces)
     each = each_reduced traces m of has sees
 
-    just : (i j : ℕ) → precedes all i j ≡ is_pair_among (writers_steps m ++ readers_pairs m 1 traces) i j
+    just : (i j : ℕ) → precedes all i j ≡ is_pair_among (writers_pairs m ++ readers_pairs m 1 traces) i j
     just i j =
-        (both_pairs (writers_steps m) (readers_pairs m 1 traces) none chained all first second).pairs i j
-        ∙ ap (λ b. b || is_pair_among (writers_steps m ++ readers_pairs m 1 traces) i j) (free i j)
+        (both_pairs (writers_pairs m) (readers_pairs m 1 traces) none chained all first second).pairs i j
+        ∙ ap (λ b. b || is_pair_among (writers_pairs m ++ readers_pairs m 1 traces) i j) (free i j)

@@ -132,11 +132,11 @@ later_and_older = (3, call 2 (pos 1 ∷ []) 4) ∷ (5, old_look) ∷ []
 pub least_of_the_later : least_start 9 later_and_older ≡ 1
 least_of_the_later = refl
 
-pub beginning_there : is_start_of later_and_older (record { start = 1; number = 5 }) ≡ true
-beginning_there = refl
+pub start_there : is_start_of later_and_older (record { start = 1; number = 5 }) ≡ true
+start_there = refl
 
-pub beginning_of_another_start : is_start_of later_and_older (record { start = 4; number = 5 }) ≡ false
-beginning_of_another_start = refl
+pub start_of_another : is_start_of later_and_older (record { start = 4; number = 5 }) ≡ false
+start_of_another = refl
 
 -- ---- begins at a number
 

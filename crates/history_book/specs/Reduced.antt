@@ -73,18 +73,18 @@ pub record AddsPairs (ps : Pairs) (old new : List (List ℕ)) : Type 0 where
   pub pairs : HasPairs ps old new
 
 -- a number stands before the first of others, and each of these before the next
-abbrev pub steps_from : ℕ → List ℕ → Pairs
-steps_from n [] = []
-steps_from n (m ∷ ms) = (n, m) ∷ steps_from m ms
+abbrev pub successive_from : ℕ → List ℕ → Pairs
+successive_from n [] = []
+successive_from n (m ∷ ms) = (n, m) ∷ successive_from m ms
 
 -- each number stands before the next
-abbrev pub steps_of : List ℕ → Pairs
-steps_of [] = []
-steps_of (n ∷ ns) = steps_from n ns
+abbrev pub successive_pairs : List ℕ → Pairs
+successive_pairs [] = []
+successive_pairs (n ∷ ns) = successive_from n ns
 
 -- each writer of a cell stands before the next writer of it
-abbrev pub writers_steps : Cells (List ℕ) → Pairs
-writers_steps = flat_map (λ (e : Cell × List ℕ). steps_of e.1)
+abbrev pub writers_pairs : Cells (List ℕ) → Pairs
+writers_pairs = flat_map (λ (e : Cell × List ℕ). successive_pairs e.1)
 
 -- the last of the numbers that are at most `start`
 abbrev pub last_seen : (start : ℕ) → List ℕ → Option ℕ

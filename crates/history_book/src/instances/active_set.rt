@@ -69,15 +69,15 @@ impl ActiveSet {
         ensures err { OnErr result (self.new ≡ self.old) }
         ensures ordered { IsStrictlySortedBy nat_cmp (keys_of self.new) }
     {
-        let beginning = InstanceStart {
+        let start = InstanceStart {
             start: active.start,
             number,
         };
-        self.by_start.insert(beginning)?;
+        self.by_start.insert(start)?;
         match self.by_number.insert(number, active) {
             Ok(_) => Ok(()),
             Err(_) => {
-                self.by_start.remove(&beginning);
+                self.by_start.remove(&start);
                 Err(AllocError)
             }
         }

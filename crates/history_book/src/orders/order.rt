@@ -139,13 +139,13 @@ fn free_more(
 }
 
 // Writes one number at each of some places.
-fn mark(marks: &mut [usize], places: &[usize], number: usize)
-    requires { (n : ℕ) → is_one_of places.now n ≡ true → n < length marks.old }
-    ensures { (n : ℕ) → slice_index marks.new n
-        ≡ (if is_one_of places.now n then number else slice_index marks.old n) }
+fn write_at(numbers: &mut [usize], places: &[usize], number: usize)
+    requires { (n : ℕ) → is_one_of places.now n ≡ true → n < length numbers.old }
+    ensures { (n : ℕ) → slice_index numbers.new n
+        ≡ (if is_one_of places.now n then number else slice_index numbers.old n) }
 {
     for place in places {
-        marks[*place] = number;
+        numbers[*place] = number;
     }
 }
 
@@ -250,7 +250,7 @@ impl Precedence {
         let mut leaders = vec![in alloc; 0; self.len() + 1]?;
         for place in 0..self.len() {
             if waits[place + 1] > 0 {
-                mark(&mut leaders, self.behind(place + 1), place + 1);
+                write_at(&mut leaders, self.behind(place + 1), place + 1);
             }
         }
         Ok(leaders)

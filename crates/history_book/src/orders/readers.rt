@@ -4,7 +4,7 @@ ghost use Rattle.std.specs.Prelude.{◌≡◌, ◌↔◌, length, slice_get, Som
 ghost use Rattle.history_book.specs.Orders.{IsReduced, IsUpTo};
 ghost use Rattle.history_book.specs.Traces.{trace_depends, SeesEarlier};
 ghost use Rattle.history_book.specs.Reduced.{AddsPairs, RiseFrom, AreWithin, AllRiseWithin, numbers_at};
-ghost use Rattle.history_book.specs.Reduced.{steps_from, steps_of, writers_steps};
+ghost use Rattle.history_book.specs.Reduced.{successive_from, successive_pairs, writers_pairs};
 ghost use Rattle.history_book.specs.Reduced.{seen_pairs, missed_pairs, reader_pairs};
 ghost use Rattle.history_book.specs.Reduced.{sight_pairs, region_pairs, sights_pairs, readers_pairs};
 ghost use Rattle.history_book.specs.Precedence.{precedes};
@@ -16,14 +16,15 @@ use prog_tree::{Cell, Region, RisingCells};
 use std::alloc::{AllocError, Global};
 
 // Puts a number and each of the next before the one behind it.
-fn add_steps_from(
+fn add_successive_from(
     precedence: &mut Precedence,
     first: usize,
     rest: &[usize],
 ) -> Result<(), AllocError>
     requires first { IsUpTo (length precedence.old) first }
     requires rest { AreWithin (length precedence.old) rest.now }
-    ensures { OnOk result (AddsPairs (steps_from first rest.now) precedence.old precedence.new) }
+    ensures { OnOk result
+        (AddsPairs (successive_from first rest.now) precedence.old precedence.new) }
 {
     let mut last = first;
     for number in rest {
@@ -34,23 +35,23 @@ fn add_steps_from(
 }
 
 // Puts each number before the next.
-fn add_steps(precedence: &mut Precedence, numbers: &[usize]) -> Result<(), AllocError>
+fn add_successive(precedence: &mut Precedence, numbers: &[usize]) -> Result<(), AllocError>
     requires { AreWithin (length precedence.old) numbers.now }
-    ensures { OnOk result (AddsPairs (steps_of numbers.now) precedence.old precedence.new) }
+    ensures { OnOk result (AddsPairs (successive_pairs numbers.now) precedence.old precedence.new) }
 {
     let Some((first, rest)) = numbers.split_first() else {
         return Ok(());
     };
-    add_steps_from(precedence, *first, rest)
+    add_successive_from(precedence, *first, rest)
 }
 
 // Puts each writer of a cell before the next writer of it.
 fn add_writers(precedence: &mut Precedence, writers: &Writers) -> Result<(), AllocError>
     requires { AllRiseWithin (length precedence.old) writers.now }
-    ensures { OnOk result (AddsPairs (writers_steps writers.now) precedence.old precedence.new) }
+    ensures { OnOk result (AddsPairs (writers_pairs writers.now) precedence.old precedence.new) }
 {
     for (_, numbers) in writers.cells.iter() {
-        add_steps(precedence, numbers.as_slice())?;
+        add_successive(precedence, numbers.as_slice())?;
     }
     Ok(())
 }

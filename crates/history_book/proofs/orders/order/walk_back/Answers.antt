@@ -1,6 +1,6 @@
 use Rattle.std.proofs.Common.{◌≡◌, ◌<◌, get_or, ◌∙◌, arith}
 use Rattle.std.proofs.lemmas.List.{get_or_read, length-set}
-use Rattle.history_book.proofs.NumberLists.{mark-push}
+use Rattle.history_book.proofs.NumberLists.{write-push}
 use Rattle.history_book.proofs.WalkLaws.{walk-new, walk-same, walk-once, walk-leads}
 use Rattle.history_book.proofs.orders.order.walk_back.Goals as goal
 
@@ -20,7 +20,7 @@ loop-walk-preserved c =
       long = length-set cur at c.replace-at.new.dest ∙ i.long;
       here = rw next (c.requires.within at);
       led = rw next (c.requires.on at i.led);
-      kept = λ n. rw (c.in_ok-push.ensures.items, c.replace-at.ensures.after) (mark-push led cur walk at 0 (omega arith) i.kept n);
+      kept = λ n. rw (c.in_ok-push.ensures.items, c.replace-at.ensures.after) (write-push led cur walk at 0 (omega arith) i.kept n);
       once = λ n. rw c.in_ok-push.ensures.items (walk-once walk at (walk-new led cur walk at i.kept more) i.once n);
       walked = λ before is.
           rw (c.in_ok-push.ensures.items, next) (walk-leads (λ i j. before j i) walk at (get_or led at 0) (i.walked before is) (is at i.led));
