@@ -12,10 +12,10 @@ pub mod FitLaws
 pub mod ForwardLaws
 pub mod FoundLaws
 pub mod HistoryLaws
+pub mod HorizonLaws
 pub mod InTurn
 pub mod LeastFree
 pub mod NearbyLaws
-pub mod NearbyOrderLaws
 pub mod NumberLists
 pub mod OnceLaws
 pub mod OrderLaws

@@ -1,241 +1,187 @@
--- Numbers that are raised place by place, and how far commits stand from those that have to stand before them.
-use Rattle.std.proofs.Common.{◌≡◌, ◌∙◌, ◌==◌, ◌⊎◌, inl, inr, ℕ, zero, suc, ◌+◌, ◌<◌, ◌≤◌, max, nat_lt, true, false, ◌||◌, not, List, [], ◌∷◌, ◌++◌, length, get_or, length-append, length-set, slice_set, refl, ap, sym, subst, arith}
-use Rattle.std.specs.Prelude.{◌≢◌, nat_le, slice_index, slice_get, Some, None, Option, unwrap_or}
-use Rattle.std.proofs.lemmas.Bool.{and_parts, or_cases, cases_lt}
+-- What tests of near commits tell of the least order.
+use Rattle.std.proofs.Common.{◌≡◌, ◌≢◌, ℕ, zero, suc, max, ◌+◌, ◌<◌, ◌≤◌, ◌==◌, ◌||◌, Bool, true, false, List, [], ◌∷◌, ◌++◌, length, set, get_or, replicate, ◌⊎◌, inl, inr, refl, sym, ap, ◌∙◌, subst, arith, Some, slice_index}
+use Rattle.std.specs.Prelude.{option_and_then}
+use Rattle.std.specs.List.{range_with_len}
+use Rattle.std.proofs.lemmas.Bool.{cases_lt, false≢true, false_from_ne_true}
 use Rattle.std.proofs.lemmas.Bool.Decides.{eqb_tells}
-use Rattle.std.proofs.lemmas.List.{get_or_past, get_or-set_same, get_or-set_other}
-use Rattle.std.proofs.lemmas.Option.{slice_get_cases}
-use Rattle.history_book.specs.Nearby.{AreHorizons, AreLastBegun, AreRaised}
-use Rattle.history_book.specs.Orders.{IsUpTo}
+use Rattle.std.proofs.lemmas.List.{get_or-set_same, get_or-set_other, length-set, length-replicate}
+use Rattle.std.proofs.Math.Bool.{or-true, or-false}
+use Rattle.history_book.specs.Horizons.{AreHorizons}
+use Rattle.history_book.specs.Nearby.{is_marked, AreMarked, IsMarkedBelow, IsFreeTest, IsFirstFree, IsHolder, IsTestedBelow, AreHolders}
+use Rattle.history_book.specs.Orders.{is_one_of, is_free, first_free, placed_by, least_order, IsUpTo}
 use Rattle.history_book.specs.TraceView.{TraceView}
-use Rattle.history_book.specs.Traces.{trace_at, trace_depends, changes_again, sees_change, misses_change, SeesEarlier, no_trace}
-use Rattle.history_book.proofs.TestLaws.{lt_told, le_told}
+use Rattle.history_book.specs.Traces.{trace_depends}
+use Rattle.history_book.proofs.LeastFree.{first-free}
+use Rattle.history_book.proofs.NumberLists.{Same, one-push}
+use Rattle.history_book.proofs.OrderLaws.{member_of, is_one_of-member, free_by_test, free_tested}
 
--- ---- raised numbers
+-- ---- what is free
 
--- a number is no greater than a place, or is one of the numbers before it
-abbrev pub IsLowOrBefore : List ℕ → (place number : ℕ) → Type 0
-IsLowOrBefore numbers place number = (number ≤ place) ⊎ ((m : ℕ) × (m < place) × (number ≡ slice_index numbers m))
+module _ (traces : List TraceView) (marks : List Bool) where
+  abbrev before : ℕ → ℕ → Bool
+  before i j = trace_depends traces i j
 
--- a number is a place, or one of the numbers there and before
-abbrev pub IsPlaceOrOne : List ℕ → (place number : ℕ) → Type 0
-IsPlaceOrOne numbers place number = (number ≡ place) ⊎ ((m : ℕ) × (m ≤ place) × (number ≡ slice_index numbers m))
+  abbrev all : List ℕ
+  all = range_with_len 1 (length traces)
 
--- so many numbers are raised, and the greatest so far is known
-pub record AreRaisedUpTo (numbers raised : List ℕ) (place greatest : ℕ) : Type 0 where
-  pub long : length raised ≡ place
-  pub own : (n : ℕ) → n < place → n ≤ slice_index raised n
-  pub above : (m n : ℕ) → m ≤ n → n < place → slice_index numbers m ≤ slice_index raised n
-  pub one : (n : ℕ) → n < place → IsPlaceOrOne numbers n (slice_index raised n)
-  pub seen : (m : ℕ) → m < place → slice_index numbers m ≤ greatest
-  pub known : IsLowOrBefore numbers place greatest
+  pub placed-held : (n : ℕ) → is_marked marks n ≡ true → IsFreeTest traces marks n false
+  placed-held n marked placed are =
+      false_from_ne_true (is_free before all placed n) (λ free.
+      (free_by_test before (length traces) placed n free).0 (member_of placed n (sym (are n) ∙ marked)))
 
--- a read within a list with one more behind it
-pub data ReadsMore (xs : List ℕ) (x n read : ℕ) : Type 0 where
-  earlier : n < length xs → read ≡ slice_index xs n → ReadsMore xs x n read
-  at_end : n ≡ length xs → read ≡ x → ReadsMore xs x n read
+  pub waiting-held : (i n : ℕ) → IsHolder traces i n → is_marked marks i ≡ false → IsFreeTest traces marks n false
+  waiting-held i n holder unplaced placed are =
+      false_from_ne_true (is_free before all placed n) (λ free.
+      false≢true (sym unplaced ∙ are i ∙ is_one_of-member placed i ((free_by_test before (length traces) placed n free).1 i holder.0 holder.1)))
 
-pub reads_more : (xs : List ℕ) (x n : ℕ) → n < length xs + 1 → ReadsMore xs x n (slice_index (xs ++ x ∷ []) n)
-reads_more [] x zero below = at_end refl refl
-reads_more [] x (suc n) below = absurd (omega (arith, below))
-reads_more (y ∷ ys) x zero below = earlier (omega arith) refl
-reads_more (y ∷ ys) x (suc n) below = go (reads_more ys x n (omega (arith, below)))
-  where
-    go : ReadsMore ys x n (slice_index (ys ++ x ∷ []) n) → ReadsMore (y ∷ ys) x (suc n) (slice_index (ys ++ x ∷ []) n)
-    go (earlier h e) = earlier (omega (arith, h)) e
-    go (at_end h e) = at_end (omega (arith, h)) e
+  pub over-free : (n : ℕ) → is_marked marks n ≡ false → ((i : ℕ) → IsHolder traces i n → is_marked marks i ≡ true) → IsFreeTest traces marks n true
+  over-free n unplaced over placed are =
+      free_tested before (length traces) placed n (
+        (λ m. false≢true (sym unplaced ∙ are n ∙ is_one_of-member placed n m)),
+        λ i up held. member_of placed i (sym (are i) ∙ over i (up, held)),
+      )
 
-module _ (numbers raised : List ℕ) (place greatest more : ℕ) (r : AreRaisedUpTo numbers raised place greatest) (most : more ≡ max (max place greatest) (slice_index numbers place)) where
-  -- the greatest is the number at the place, one before it, or the place
-  abbrev IsFound : Type 0
-  IsFound = (more ≡ slice_index numbers place) ⊎ (((m : ℕ) × (m < place) × (more ≡ slice_index numbers m)) ⊎ (more ≡ place))
-
-  which : IsFound
-  which = first (cases_lt (max place greatest) (slice_index numbers place))
+  -- the first that is free
+  pub found-first : (from n : ℕ) → IsMarkedBelow marks from → IsUpTo (length traces) n → from ≤ n → IsFreeTest traces marks n true
+      → ((m : ℕ) → from ≤ m → m < n → IsFreeTest traces marks m false) → IsFirstFree traces marks n
+  found-first from n below up low free held placed are =
+      let first = up.0 in
+      let last = up.1 in
+      first-free before all placed (length traces) 1 n (omega arith) (omega arith) (free placed are) (λ q a b. go q a b (cases_lt q from))
     where
-      third : place < greatest → more ≡ greatest → IsLowOrBefore numbers place greatest → IsFound
-      third up is (inl low) = absurd (omega (arith, up, low))
-      third up is (inr b) = inr (inl (b.0, b.1, is ∙ b.2))
+      go : (q : ℕ) → 1 ≤ q → q < n → (q < from) ⊎ (from ≤ q) → is_free before all placed q ≡ false
+      go q a b (inl l) = placed-held q (below.marked q a l) placed are
+      go q a b (inr l) = held q l b placed are
 
-      second : slice_index numbers place ≤ max place greatest → (place < greatest) ⊎ (greatest ≤ place) → IsFound
-      second low (inl up) = third up (omega (arith, most, low, up)) r.known
-      second low (inr down) = inr (inr (omega (arith, most, low, down)))
+-- ---- tests up to a horizon
 
-      first : (max place greatest < slice_index numbers place) ⊎ (slice_index numbers place ≤ max place greatest) → IsFound
-      first (inl up) = inl (omega (arith, most, up))
-      first (inr low) = second low (cases_lt place greatest)
+-- none that was tested has to stand before it, and none behind the horizon can
+pub over-tested : (traces : List TraceView) (horizons : List ℕ) (marks : List Bool) (n bound : ℕ) → AreHorizons traces horizons → IsUpTo (length traces) n
+    → slice_index horizons n < bound → IsTestedBelow traces marks n bound → (i : ℕ) → IsHolder traces i n → is_marked marks i ≡ true
+over-tested traces horizons marks n bound near up past tested i holder =
+    let h = near.whole i n holder.0 up holder.1 in tested i holder (omega arith)
 
-  -- one more number is raised
-  pub raised_more : AreRaisedUpTo numbers (raised ++ more ∷ []) (place + 1) more
-  raised_more = record {
-    long = let l = r.long in omega (arith, length-append raised (more ∷ []));
-    own = λ n below. own n (reads n below);
-    above = λ m n low below. above m n low (reads n below);
-    one = λ n below. one n (reads n below);
-    seen = λ m below. seen m (cases_lt m place) below;
-    known = known which;
-  }
-    where
-      reads : (n : ℕ) → n < place + 1 → ReadsMore raised more n (slice_index (raised ++ more ∷ []) n)
-      reads n below = reads_more raised more n (omega (arith, r.long, below))
-
-      seen : (m : ℕ) → (m < place) ⊎ (place ≤ m) → m < place + 1 → slice_index numbers m ≤ more
-      seen m (inl h) below = let s = r.seen m h in omega (arith, s, most)
-      seen m (inr h) below = let here : m ≡ place = omega (arith, h, below) in rw here (omega (arith, most))
-
-      own : (n : ℕ) → ReadsMore raised more n (slice_index (raised ++ more ∷ []) n) → n ≤ slice_index (raised ++ more ∷ []) n
-      own n (earlier h e) = let o = r.own n (omega (arith, r.long, h)) in rw e o
-      own n (at_end h e) = rw e (omega (arith, r.long, h, most))
-
-      above : (m n : ℕ) → m ≤ n → ReadsMore raised more n (slice_index (raised ++ more ∷ []) n) → slice_index numbers m ≤ slice_index (raised ++ more ∷ []) n
-      above m n low (earlier h e) = rw e (r.above m n low (omega (arith, r.long, h)))
-      above m n low (at_end h e) = rw e (seen m (cases_lt m place) (omega (arith, r.long, h, low)))
-
-      ends : (n : ℕ) → n ≡ place → IsFound → IsPlaceOrOne numbers n more
-      ends n at (inl is) = inr (place, omega (arith, at), is)
-      ends n at (inr (inl b)) = inr (b.0, (let low = b.1 in omega (arith, at, low)), b.2)
-      ends n at (inr (inr is)) = inl (omega (arith, at, is))
-
-      one : (n : ℕ) → ReadsMore raised more n (slice_index (raised ++ more ∷ []) n) → IsPlaceOrOne numbers n (slice_index (raised ++ more ∷ []) n)
-      one n (earlier h e) = subst (IsPlaceOrOne numbers n) (sym e) (r.one n (omega (arith, r.long, h)))
-      one n (at_end h e) = subst (IsPlaceOrOne numbers n) (sym e) (ends n (h ∙ r.long) which)
-
-      known : IsFound → IsLowOrBefore numbers (place + 1) more
-      known (inl is) = inr (place, omega arith, is)
-      known (inr (inl b)) = inr (b.0, (let low = b.1 in omega (arith, low)), b.2)
-      known (inr (inr is)) = inl (omega (arith, is))
-
--- ---- snapshots that end before numbers
-
--- each commit saw only earlier ones
-pub saw_earlier : (traces : List TraceView) → SeesEarlier traces → (j : ℕ) → IsUpTo (length traces) j → (trace_at traces j).start < j
-saw_earlier traces sees zero within = absurd (omega (arith, within.0))
-saw_earlier traces sees (suc n) within = go (slice_get_cases traces n).1
+pub tested-next : (traces : List TraceView) (marks : List Bool) (n other : ℕ) → IsTestedBelow traces marks n other → (IsHolder traces other n → is_marked marks other ≡ true) → IsTestedBelow traces marks n (other + 1)
+tested-next traces marks n other tested now i holder high = go (cases_lt i other)
   where
-    go : ((t : TraceView) × (n < length traces) × (slice_get traces n ≡ Some t) × (get_or traces n t ≡ t)) ⊎ ((length traces ≤ n) × (slice_get traces n ≡ None)) → (trace_at traces (suc n)).start < suc n
-    go (inl s) = let low = sees n s.0 s.2 in subst (λ (o : Option TraceView). (unwrap_or o no_trace).start < suc n) (sym s.2) (omega (arith, low))
-    go (inr s) = absurd (omega (arith, s.0, within.1))
+    go : (i < other) ⊎ (other ≤ i) → is_marked marks i ≡ true
+    go (inl l) = tested i holder l
+    go (inr l) =
+        let same : other ≡ i = omega arith in
+        subst (λ m. is_marked marks m ≡ true) same (now (subst (λ m. IsHolder traces m n) (sym same) holder))
 
--- of the first commits, for each number from 0 on, the last whose snapshot ends right before it
-pub record AreLastUpTo (traces : List TraceView) (last : List ℕ) (count : ℕ) : Type 0 where
-  pub long : length last ≡ length traces + 1
-  pub ends : (n : ℕ) → slice_index last n ≢ 0 → (slice_index last n ≤ count) × ((trace_at traces (slice_index last n)).start + 1 ≡ n)
-  pub whole : (n i : ℕ) → 1 ≤ i → i ≤ count → (trace_at traces i).start + 1 ≡ n → i ≤ slice_index last n
-
--- a read of a list in which one number was written
-abbrev ReadsSet : List ℕ → (at x n read : ℕ) → Type 0
-ReadsSet xs at x n read = ((n ≡ at) × (read ≡ x)) ⊎ ((n ≢ at) × (read ≡ slice_index xs n))
-
-read_set : (xs : List ℕ) (at x n : ℕ) → at < length xs → ReadsSet xs at x n (slice_index (slice_set xs at x) n)
-read_set xs at x n inside = go (eqb_tells n at)
+-- the lesser ones are marked, or were tested
+pub tested-max : (traces : List TraceView) (marks : List Bool) (holders : List ℕ) (from n : ℕ) → IsMarkedBelow marks from → AreHolders traces marks holders → IsTestedBelow traces marks n (max from (slice_index holders n))
+tested-max traces marks holders from n below are i holder high = go (cases_lt i from) (cases_lt i (slice_index holders n))
   where
-    go : (((n == at) ≡ true) × (n ≡ at)) ⊎ (((n == at) ≡ false) × (n ≢ at)) → ReadsSet xs at x n (slice_index (slice_set xs at x) n)
-    go (inl h) = inl (h.1, (rw h.1 (get_or-set_same xs at x 0 inside)))
-    go (inr h) = inr (h.1, get_or-set_other xs at n x 0 h.1)
+    go : (i < from) ⊎ (from ≤ i) → (i < slice_index holders n) ⊎ (slice_index holders n ≤ i) → is_marked marks i ≡ true
+    go (inl l) _ = below.marked i holder.0.0 l
+    go (inr l) (inl h) = are.tested n i holder h
+    go (inr l) (inr h) = absurd (omega arith)
 
--- the trace that stands at a place is that of the next number
-pub trace_read : (traces : List TraceView) (place : ℕ) (t : TraceView) → place < length traces → t ≡ get_or traces place t → trace_at traces (place + 1) ≡ t
-trace_read traces place t inside is = (let next : place + 1 ≡ suc place = omega arith in ap (trace_at traces) next) ∙ go traces place inside is
+-- ---- marks
+
+pub marked-more : (marks : List Bool) (placed : List ℕ) (p : ℕ) → p < length marks → AreMarked placed marks → AreMarked (placed ++ p ∷ []) (set marks p true)
+marked-more marks placed p within are n = go (eqb_tells p n) ∙ sym (one-push placed p n)
   where
-    go : (traces : List TraceView) (place : ℕ) → place < length traces → t ≡ get_or traces place t → trace_at traces (suc place) ≡ t
-    go [] place inside is = absurd (omega (arith, inside))
-    go (u ∷ us) zero inside is = sym is
-    go (u ∷ us) (suc place) inside is = go us place (omega (arith, inside)) is
+    go : Same p n → is_marked (set marks p true) n ≡ (is_one_of placed n || p == n)
+    go (inl e) = rw e.0 (subst (λ m. is_marked (set marks p true) m ≡ (is_one_of placed n || true)) e.1 (get_or-set_same marks p true false within ∙ sym (or-true (is_one_of placed n))))
+    go (inr e) = rw e.0 (get_or-set_other marks p n true false (λ s. e.1 (sym s)) ∙ are n ∙ sym (or-false (is_one_of placed n)))
 
--- one more commit
-module _ (traces : List TraceView) (last : List ℕ) (count : ℕ) (so_far : AreLastUpTo traces last count) (sees : SeesEarlier traces) (inside : count < length traces) where
-  abbrev at : ℕ
-  at = (trace_at traces (count + 1)).start + 1
+-- ---- turns
 
-  abbrev written : List ℕ
-  written = slice_set last at (count + 1)
-
-  early : at < length last
-  early = let low = saw_earlier traces sees (count + 1) (omega arith, omega (arith, inside)) in omega (arith, low, inside, so_far.long)
-
-  pub last_more : AreLastUpTo traces written (count + 1)
-  last_more = record {
-    long = length-set last at (count + 1) ∙ so_far.long;
-    ends = λ n some. ends n (read_set last at (count + 1) n early) some;
-    whole = λ n i low high is. whole n i low high is (read_set last at (count + 1) n early);
-  }
-    where
-      ends : (n : ℕ) → ReadsSet last at (count + 1) n (slice_index written n) → slice_index written n ≢ 0 →
-          (slice_index written n ≤ count + 1) × ((trace_at traces (slice_index written n)).start + 1 ≡ n)
-      ends n (inl h) some = rw h.1 (omega arith, sym h.0)
-      ends n (inr h) some =
-          let was = so_far.ends n (λ zero. some (h.1 ∙ zero)) in
-          rw h.1 ((let low = was.0 in omega (arith, low)), was.1)
-
-      whole : (n i : ℕ) → 1 ≤ i → i ≤ count + 1 → (trace_at traces i).start + 1 ≡ n → ReadsSet last at (count + 1) n (slice_index written n) → i ≤ slice_index written n
-      whole n i low high is (inl h) = rw h.1 high
-      whole n i low high is (inr h) = rw h.1 (so_far.whole n i low (go (cases_lt count i)) is)
-        where
-          go : (count < i) ⊎ (i ≤ count) → i ≤ count
-          go (inr fits) = fits
-          go (inl above) = absurd (h.0 (let here : i ≡ count + 1 = omega (arith, above, high) in sym is ∙ ap (λ k. (trace_at traces k).start + 1) here))
-
--- ---- horizons
-
--- a commit is not later than another, or began before it
-abbrev IsNear : List TraceView → (i j : ℕ) → Type 0
-IsNear traces i j = (i ≤ j) ⊎ ((trace_at traces i).start < j)
-
--- one that has to stand before another is near it
-near_by : (traces : List TraceView) → SeesEarlier traces → (i j : ℕ) → IsUpTo (length traces) j → trace_depends traces i j ≡ true →
-    IsNear traces i j
-near_by traces sees i j within depends =
-    first (or_cases _ _ (and_parts (not (i == j)) (changes_again traces i j || (sees_change traces i j || misses_change traces i j)) depends).1)
+pub held-next : (traces : List TraceView) (marks : List Bool) (from number : ℕ) → ((n : ℕ) → from ≤ n → n < number → IsFreeTest traces marks n false)
+    → IsFreeTest traces marks number false → (n : ℕ) → from ≤ n → n < number + 1 → IsFreeTest traces marks n false
+held-next traces marks from number held now n low high = go (cases_lt n number)
   where
-    second : (sees_change traces i j ≡ true) ⊎ (misses_change traces i j ≡ true) → IsNear traces i j
-    second (inl h) =
-        let l = le_told i (trace_at traces j).start (and_parts (nat_le i (trace_at traces j).start) _ h).0 in
-        inl (omega (arith, l, saw_earlier traces sees j within))
-    second (inr h) = inr (lt_told (trace_at traces i).start j (and_parts (nat_lt (trace_at traces i).start j) _ h).0)
+    go : (n < number) ⊎ (number ≤ n) → IsFreeTest traces marks n false
+    go (inl l) = held n low l
+    go (inr l) = let same : number ≡ n = omega arith in subst (λ m. IsFreeTest traces marks m false) same now
 
-    first : (changes_again traces i j ≡ true) ⊎ ((sees_change traces i j || misses_change traces i j) ≡ true) → IsNear traces i j
-    first (inl h) = let l = lt_told i j (and_parts (nat_lt i j) _ h).0 in inl (omega (arith, l))
-    first (inr h) = second (or_cases _ _ h)
+pub holders-set : (traces : List TraceView) (marks : List Bool) (holders : List ℕ) (p h : ℕ) → p < length holders → AreHolders traces marks holders
+    → IsHolder traces h p → IsTestedBelow traces marks p h → AreHolders traces marks (set holders p h)
+holders-set traces marks holders p h within are holder below = record {
+  long = length-set holders p h ∙ are.long;
+  holds = λ n some. held n some (eqb_tells p n);
+  tested = λ n. tested n (eqb_tells p n);
+}
+  where
+    here : get_or (set holders p h) p 0 ≡ h
+    here = get_or-set_same holders p h 0 within
 
-module _ (traces : List TraceView) (last raised : List ℕ) (sees : SeesEarlier traces) (begun : AreLastBegun traces last) (up : AreRaised last raised) where
-  last_within : (m : ℕ) → slice_index last m ≤ length traces
-  last_within m = go (cases_lt 0 (slice_index last m))
-    where
-      go : (0 < slice_index last m) ⊎ (slice_index last m ≤ 0) → slice_index last m ≤ length traces
-      go (inl h) = (begun.ends m (λ e. omega (arith, h, e))).0.1
-      go (inr h) = omega (arith, h)
+    there : (n : ℕ) → p ≢ n → get_or (set holders p h) n 0 ≡ get_or holders n 0
+    there n apart = get_or-set_other holders p n h 0 (λ s. apart (sym s))
 
-  raised_within : (n : ℕ) → slice_index raised n ≤ length traces
-  raised_within n = go (cases_lt n (length last))
-    where
-      found : n < length last → IsPlaceOrOne last n (slice_index raised n) → slice_index raised n ≤ length traces
-      found inside (inl e) = omega (arith, e, inside, begun.long)
-      found inside (inr m) = let w = last_within m.0 in let e = m.2 in omega (arith, e, w)
+    held : (n : ℕ) → get_or (set holders p h) n 0 ≢ 0 → Same p n → IsHolder traces (get_or (set holders p h) n 0) n
+    held n some (inl e) = subst (λ q. IsHolder traces (get_or (set holders p h) q 0) q) e.1 (subst (λ m. IsHolder traces m p) (sym here) holder)
+    held n some (inr e) = subst (λ m. IsHolder traces m n) (sym (there n e.1)) (are.holds n (λ z. some (there n e.1 ∙ z)))
 
-      go : (n < length last) ⊎ (length last ≤ n) → slice_index raised n ≤ length traces
-      go (inl inside) = found inside (up.one n inside)
-      go (inr past) = let e = get_or_past raised n 0 (omega (arith, past, up.long)) in omega (arith, e)
+    tested : (n : ℕ) → Same p n → IsTestedBelow traces marks n (get_or (set holders p h) n 0)
+    tested n (inl e) = subst (λ q. IsTestedBelow traces marks q (get_or (set holders p h) q 0)) e.1 (subst (λ m. IsTestedBelow traces marks p m) (sym here) below)
+    tested n (inr e) = subst (λ m. IsTestedBelow traces marks n m) (sym (there n e.1)) (are.tested n)
 
-  raised_whole : (i j : ℕ) → IsUpTo (length traces) i → IsUpTo (length traces) j → IsNear traces i j → i ≤ slice_index raised j
-  raised_whole i j first second (inl h) = let o = up.own j (omega (arith, begun.long, second.1)) in omega (arith, o, h)
-  raised_whole i j first second (inr h) =
-      let w = begun.whole ((trace_at traces i).start + 1) i (first, refl) in
-      let a = up.above ((trace_at traces i).start + 1) j (omega (arith, h)) (omega (arith, begun.long, second.1)) in
-      omega (arith, w, a)
+-- ---- the start
 
-  raised_near : (j : ℕ) → IsUpTo (length traces) j → IsPlaceOrOne last j (slice_index raised j) → (slice_index raised j ≡ j) ⊎ ((trace_at traces (slice_index raised j)).start < j)
-  raised_near j within (inl e) = inl e
-  raised_near j within (inr m) =
-      let o = up.own j (omega (arith, begun.long, within.1)) in
-      let e = m.2 in
-      let ends = begun.ends m.0 (λ zero. let low = within.0 in omega (arith, o, e, zero, low)) in
-      let before : (trace_at traces (slice_index last m.0)).start < j = let low = m.1 in let end = ends.1 in omega (arith, low, end) in
-      inr (subst (λ n. (trace_at traces n).start < j) (sym e) before)
+get-none : (k n : ℕ) → is_marked (replicate k false) n ≡ false
+get-none zero n = refl
+get-none (suc k) zero = refl
+get-none (suc k) (suc n) = get-none k n
 
-  pub raised_horizons : AreHorizons traces raised
-  raised_horizons = record {
-    long = up.long ∙ begun.long;
-    within = raised_within;
-    whole = λ i j first second depends. raised_whole i j first second (near_by traces sees i j second depends);
-    near = λ j within. raised_near j within (up.one j (omega (arith, begun.long, within.1)));
-  }
+abbrev pub zeros : ℕ → List ℕ
+zeros k = replicate k 0
+
+get-zero : (k n : ℕ) → get_or (zeros k) n 0 ≡ 0
+get-zero zero n = refl
+get-zero (suc k) zero = refl
+get-zero (suc k) (suc n) = get-zero k n
+
+pub start-marked : (marks : List Bool) (placed : List ℕ) (k : ℕ) → marks ≡ replicate k false → placed ≡ [] → AreMarked placed marks
+start-marked marks placed k is none n = ap (λ bs. is_marked bs n) is ∙ get-none k n ∙ sym (ap (λ ns. is_one_of ns n) none)
+
+pub start-holders : (traces : List TraceView) (marks : List Bool) (holders : List ℕ) → holders ≡ zeros (length traces + 1) → AreHolders traces marks holders
+start-holders traces marks holders is = record {
+  long = ap (λ (ns : List ℕ). length ns) is ∙ length-replicate (length traces + 1) 0;
+  holds = λ n some. absurd (some (none n));
+  tested = λ n i holder below. absurd (let z = none n in omega arith);
+}
+  where
+    none : (n : ℕ) → get_or holders n 0 ≡ 0
+    none n = ap (λ ns. get_or ns n 0) is ∙ get-zero (length traces + 1) n
+
+pub start-below : (marks : List Bool) → IsMarkedBelow marks 1
+start-below marks = record { first = omega arith; marked = λ n low high. absurd (omega arith) }
+
+pub start-order : (traces : List TraceView) (placed : List ℕ) → placed ≡ [] → (k : ℕ) → k + 0 ≡ length traces
+    → placed_by (trace_depends traces) (range_with_len 1 (length traces)) k placed ≡ least_order (trace_depends traces) (length traces)
+start-order traces placed none k e =
+    let same : k ≡ length traces = omega arith in
+    ap (placed_by (trace_depends traces) (range_with_len 1 (length traces)) k) none
+    ∙ ap (λ m. placed_by (trace_depends traces) (range_with_len 1 (length traces)) m []) same
+
+-- ---- one more place
+
+pub next-order : (traces : List TraceView) (placed : List ℕ) (p turn : ℕ)
+    → first_free (trace_depends traces) (range_with_len 1 (length traces)) placed (range_with_len 1 (length traces)) ≡ Some p
+    → ((k : ℕ) → k + turn ≡ length traces → placed_by (trace_depends traces) (range_with_len 1 (length traces)) k placed ≡ least_order (trace_depends traces) (length traces))
+    → (k : ℕ) → k + (turn + 1) ≡ length traces
+    → placed_by (trace_depends traces) (range_with_len 1 (length traces)) k (placed ++ p ∷ []) ≡ least_order (trace_depends traces) (length traces)
+next-order traces placed p turn first so_far k e =
+    sym (ap (option_and_then (λ m. placed_by (trace_depends traces) (range_with_len 1 (length traces)) k (placed ++ m ∷ []))) first)
+    ∙ so_far (suc k) (omega arith)
+
+pub marked-set : (marks : List Bool) (p n : ℕ) → p < length marks → is_marked marks n ≡ true → is_marked (set marks p true) n ≡ true
+marked-set marks p n within marked = go (eqb_tells p n)
+  where
+    go : Same p n → is_marked (set marks p true) n ≡ true
+    go (inl e) = subst (λ m. is_marked (set marks p true) m ≡ true) e.1 (get_or-set_same marks p true false within)
+    go (inr e) = get_or-set_other marks p n true false (λ s. e.1 (sym s)) ∙ marked
+
+pub below-set : (marks : List Bool) (p bound : ℕ) → p < length marks → IsMarkedBelow marks bound → IsMarkedBelow (set marks p true) bound
+below-set marks p bound within below = record { first = below.first; marked = λ n low high. marked-set marks p n within (below.marked n low high) }
+
+pub holders-place : (traces : List TraceView) (marks : List Bool) (holders : List ℕ) (p : ℕ) → p < length marks → AreHolders traces marks holders → AreHolders traces (set marks p true) holders
+holders-place traces marks holders p within are = record {
+  long = are.long;
+  holds = are.holds;
+  tested = λ n i holder below. marked-set marks p i within (are.tested n i holder below);
+}

@@ -4,8 +4,8 @@ pub mod Audit
 pub mod Dependencies
 pub mod DependsBy
 pub mod History
+pub mod Horizons
 pub mod Nearby
-pub mod NearbyOrder
 pub mod Orders
 pub mod Placing
 pub mod Precedence

@@ -1,40 +1,54 @@
--- What a test of two commits takes, and how far from a commit those stand that may have to stand before it.
-use Rattle.std.specs.Prelude.{◌≡◌, ◌≢◌, ◌⊎◌, ℕ, ◌+◌, ◌*◌, ◌<◌, ◌≤◌, true, List, length, slice_index}
-use Rattle.history_book.specs.Orders.{IsUpTo}
+-- What is known while the least order is found by tests of commits that are near each other.
+use Rattle.std.specs.Prelude.{◌≡◌, ◌≢◌, ◌≤◌, ◌<◌, ◌+◌, ℕ, Bool, true, false, List, Some, length, slice_index, slice_index_or}
+use Rattle.std.specs.List.{range_with_len}
+use Rattle.history_book.specs.Orders.{is_one_of, is_free, first_free, IsUpTo}
 use Rattle.history_book.specs.TraceView.{TraceView}
-use Rattle.history_book.specs.Traces.{trace_at, trace_depends}
+use Rattle.history_book.specs.Traces.{trace_depends}
+use Rattle.history_book.specs.declared.orders.nearby.Waiting.{Waiting}
+use Rattle.history_book.specs.declared.orders.nearby.Waiting.TheVariants as waiting
 
--- how many pairs of cells, and of a cell and a look, there are between two commits
-abbrev pub pairs_between : TraceView → TraceView → ℕ
-pairs_between a b = length a.changed * (length b.changed + length b.looked) + length b.changed * length a.looked
+-- the number, from 0 on, has a mark
+abbrev pub is_marked : List Bool → ℕ → Bool
+is_marked marks n = slice_index_or marks n false
 
--- for each number from 0 on, a number of a commit, such that no later one has to stand before it
-pub record AreHorizons (traces : List TraceView) (horizons : List ℕ) : Type 0 where
-  pub long : length horizons ≡ length traces + 1
-  pub within : (n : ℕ) → slice_index horizons n ≤ length traces
-  pub whole :
-      (i j : ℕ) → IsUpTo (length traces) i → IsUpTo (length traces) j →
-      trace_depends traces i j ≡ true → i ≤ slice_index horizons j
-  -- it is the commit itself, or one that began before it
-  pub near :
-      (j : ℕ) → IsUpTo (length traces) j →
-      (slice_index horizons j ≡ j) ⊎ ((trace_at traces (slice_index horizons j)).start < j)
+-- these are the numbers that have a mark
+abbrev pub AreMarked : List ℕ → List Bool → Type 0
+AreMarked numbers marks = (n : ℕ) → is_marked marks n ≡ is_one_of numbers n
 
--- the snapshot of a commit ends right before a number
-abbrev pub EndsBefore : List TraceView → (n i : ℕ) → Type 0
-EndsBefore traces n i = IsUpTo (length traces) i × ((trace_at traces i).start + 1 ≡ n)
+-- each number from 1 on that is less has a mark
+pub record IsMarkedBelow (marks : List Bool) (bound : ℕ) : Type 0 where
+  pub first : 1 ≤ bound
+  pub marked : (n : ℕ) → 1 ≤ n → n < bound → is_marked marks n ≡ true
 
--- for each number from 0 on, the last commit whose snapshot ends right before it, or 0 where there is none
-pub record AreLastBegun (traces : List TraceView) (last : List ℕ) : Type 0 where
-  pub long : length last ≡ length traces + 1
-  pub ends : (n : ℕ) → slice_index last n ≢ 0 → EndsBefore traces n (slice_index last n)
-  pub whole : (n i : ℕ) → EndsBefore traces n i → i ≤ slice_index last n
+-- once the commits that have a mark are placed, this one is free, or is not
+abbrev pub IsFreeTest : List TraceView → List Bool → ℕ → Bool → Type 0
+IsFreeTest traces marks n free =
+    (placed : List ℕ) → AreMarked placed marks
+    → is_free (trace_depends traces) (range_with_len 1 (length traces)) placed n ≡ free
 
--- at each place the greatest of the place and of the numbers there and before
-pub record AreRaised (numbers raised : List ℕ) : Type 0 where
-  pub long : length raised ≡ length numbers
-  pub own : (n : ℕ) → n < length numbers → n ≤ slice_index raised n
-  pub above : (m n : ℕ) → m ≤ n → n < length numbers → slice_index numbers m ≤ slice_index raised n
-  pub one :
-      (n : ℕ) → n < length numbers →
-      (slice_index raised n ≡ n) ⊎ ((m : ℕ) × (m ≤ n) × (slice_index raised n ≡ slice_index numbers m))
+-- once the commits that have a mark are placed, this one is the first that is free
+abbrev pub IsFirstFree : List TraceView → List Bool → ℕ → Type 0
+IsFirstFree traces marks n =
+    (placed : List ℕ) → AreMarked placed marks
+    → first_free (trace_depends traces) (range_with_len 1 (length traces)) placed (range_with_len 1 (length traces)) ≡ Some n
+
+-- the first is a commit that has to stand before the second
+abbrev pub IsHolder : List TraceView → (i n : ℕ) → Type 0
+IsHolder traces i n = IsUpTo (length traces) i × (trace_depends traces i n ≡ true)
+
+-- each lesser commit that has to stand before this one has a mark
+abbrev pub IsTestedBelow : List TraceView → List Bool → (n bound : ℕ) → Type 0
+IsTestedBelow traces marks n bound = (i : ℕ) → IsHolder traces i n → i < bound → is_marked marks i ≡ true
+
+-- for each number from 0 on, 0 or the least commit without a mark that had to stand before it when it was tested
+pub record AreHolders (traces : List TraceView) (marks : List Bool) (holders : List ℕ) : Type 0 where
+  pub long : length holders ≡ length traces + 1
+  pub holds : (n : ℕ) → slice_index holders n ≢ 0 → IsHolder traces (slice_index holders n) n
+  pub tested : (n : ℕ) → IsTestedBelow traces marks n (slice_index holders n)
+
+-- what a commit waits for while others have no mark
+abbrev pub WaitsFor : List TraceView → List Bool → ℕ → Waiting → Type 0
+WaitsFor traces marks n (waiting.For i) =
+    IsHolder traces i n × (is_marked marks i ≡ false) × IsTestedBelow traces marks n i
+WaitsFor traces marks n waiting.Over = (i : ℕ) → IsHolder traces i n → is_marked marks i ≡ true
+WaitsFor traces marks n waiting.Unknown = Unit {0}

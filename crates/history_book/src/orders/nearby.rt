@@ -1,12 +1,13 @@
 //! The least order of the commits, by tests of those that are near each other.
 
 ghost use Rattle.std.specs.Prelude.{◌≡◌, ◌≤◌, ◌+◌, ◌↔◌, true, false, length, Some, IfOk, IfSome, IsTrue};
-ghost use Rattle.history_book.specs.Nearby.{AreHorizons};
-ghost use Rattle.history_book.specs.NearbyOrder.{is_marked, IsMarkedBelow, IsFreeTest, IsFirstFree, IsTestedBelow, AreHolders, WaitsFor};
+ghost use Rattle.history_book.specs.Horizons.{AreHorizons};
+ghost use Rattle.history_book.specs.Nearby.{is_marked, IsMarkedBelow, IsFreeTest, IsFirstFree, IsTestedBelow, AreHolders, WaitsFor};
 ghost use Rattle.history_book.specs.Orders.{least_order, IsUpTo};
 ghost use Rattle.history_book.specs.Traces.{SeesEarlier, trace_depends};
 
-use crate::orders::dependency::{depends, horizons, steps};
+use crate::orders::horizons::{horizons, steps};
+use crate::orders::reason::depends;
 use crate::orders::trace::{Sight, Trace};
 use std::alloc::{AllocError, Global};
 

@@ -1,10 +1,10 @@
-//! Why one commit has to stand before another.
+//! Whether one commit has to stand before another, and why.
 
 ghost use Rattle.std.specs.Prelude.{◌≡◌, if◌then◌else◌, Some, None, length};
 ghost use Rattle.history_book.specs.Orders.{IsUpTo};
 ghost use Rattle.history_book.specs.Reasons.{by_change, by_look, changed_before, change_reason};
 ghost use Rattle.history_book.specs.Reasons.{missed_at, missed_by, told_reason};
-ghost use Rattle.history_book.specs.Traces.{trace_at};
+ghost use Rattle.history_book.specs.Traces.{trace_at, trace_depends};
 
 use crate::orders::trace::{Sight, Trace, trace_at};
 use prog_tree::{Cell, Region};
@@ -113,4 +113,13 @@ pub fn reason_between(traces: &[Trace], first: usize, second: usize) -> Option<R
         return changed;
     }
     first_look_reason(traces, first, second)
+}
+
+/// Whether one commit has to stand before another.
+pub fn depends(traces: &[Trace], first: usize, second: usize) -> bool
+    requires first { IsUpTo (length traces.now) first }
+    requires second { IsUpTo (length traces.now) second }
+    ensures { result ≡ trace_depends traces.now first second }
+{
+    reason_between(traces, first, second).is_some()
 }

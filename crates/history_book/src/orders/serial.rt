@@ -7,7 +7,7 @@ ghost use Rattle.history_book.specs.Traces.{SeesEarlier, trace_depends};
 
 use crate::orders::nearby::nearby_order;
 use crate::orders::order::OrderFault;
-use crate::orders::readers::reduced_precedence;
+use crate::orders::reduced::reduced_precedence;
 use crate::orders::trace::Trace;
 use std::alloc::Global;
 

@@ -1,6 +1,6 @@
 use Rattle.std.proofs.Common.{◌≡◌, ℕ, max, slice_index, sym, subst, arith, rules}
-use Rattle.history_book.specs.NearbyOrder.{IsTestedBelow}
-use Rattle.history_book.proofs.NearbyOrderLaws.{found-first, held-next, holders-set, over-free, tested-max, waiting-held}
+use Rattle.history_book.specs.Nearby.{IsTestedBelow}
+use Rattle.history_book.proofs.NearbyLaws.{found-first, held-next, holders-set, over-free, tested-max, waiting-held}
 use Rattle.history_book.proofs.orders.nearby.first_free.Goals as goal
 
 pub returns-in-Over-clause-first : goal.returns-in-Over-clause-first

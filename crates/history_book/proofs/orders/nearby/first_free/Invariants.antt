@@ -1,5 +1,5 @@
 use Rattle.std.proofs.Common.{ℕ, ◌<◌, ◌≤◌, false}
-use Rattle.history_book.specs.NearbyOrder.{IsFreeTest, AreHolders}
+use Rattle.history_book.specs.Nearby.{IsFreeTest, AreHolders}
 use Rattle.history_book.proofs.orders.nearby.first_free.Given as goal
 
 abbrev pub invariant-loop-number : goal.invariant-loop-number

@@ -1,5 +1,5 @@
 use Rattle.std.proofs.Common.{◌≡◌, ℕ, ◌<◌, ◌≤◌, true}
-use Rattle.history_book.specs.NearbyOrder.{is_marked}
+use Rattle.history_book.specs.Nearby.{is_marked}
 use Rattle.history_book.proofs.orders.nearby.first_unplaced.Given as goal
 
 abbrev pub invariant-loop-number : goal.invariant-loop-number

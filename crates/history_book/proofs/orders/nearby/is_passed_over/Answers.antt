@@ -1,6 +1,6 @@
 use Rattle.std.proofs.Common.{slice_index_or, slice_index, arith}
 use Rattle.std.proofs.lemmas.Bool.{not-true}
-use Rattle.history_book.proofs.NearbyOrderLaws.{waiting-held}
+use Rattle.history_book.proofs.NearbyLaws.{waiting-held}
 use Rattle.history_book.proofs.orders.nearby.is_passed_over.Goals as goal
 
 pub returns-then-holder-gt0-clause-passed : goal.returns-then-holder-gt0-clause-passed

@@ -1,7 +1,7 @@
 use Rattle.std.proofs.Common.{◌≡◌, List, Bool, true, length, sym, ap, subst, ◌∙◌, ◌+◌, arith}
 use Rattle.std.proofs.lemmas.List.{length-set}
-use Rattle.history_book.specs.NearbyOrder.{is_marked, IsMarkedBelow, AreHolders}
-use Rattle.history_book.proofs.NearbyOrderLaws.{start-marked, start-holders, start-below, start-order, next-order, below-set, marked-more, holders-place}
+use Rattle.history_book.specs.Nearby.{is_marked, IsMarkedBelow, AreHolders}
+use Rattle.history_book.proofs.NearbyLaws.{start-marked, start-holders, start-below, start-order, next-order, below-set, marked-more, holders-place}
 use Rattle.history_book.proofs.NumberLists.{written}
 use Rattle.history_book.proofs.orders.nearby.nearby_order.Goals as goal
 

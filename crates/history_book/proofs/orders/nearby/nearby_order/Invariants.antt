@@ -1,6 +1,6 @@
 use Rattle.std.proofs.Common.{◌≡◌, ℕ, ◌+◌, length}
 use Rattle.std.specs.List.{range_with_len}
-use Rattle.history_book.specs.NearbyOrder.{AreMarked, IsMarkedBelow, AreHolders}
+use Rattle.history_book.specs.Nearby.{AreMarked, IsMarkedBelow, AreHolders}
 use Rattle.history_book.specs.Orders.{placed_by, least_order}
 use Rattle.history_book.specs.Traces.{trace_depends}
 use Rattle.history_book.proofs.orders.nearby.nearby_order.Given as goal

@@ -1,6 +1,6 @@
 use Rattle.std.proofs.Common.{sym, ◌∙◌, arith}
 use Rattle.std.proofs.lemmas.Bool.{false≢true}
-use Rattle.history_book.proofs.NearbyOrderLaws.{over-tested, tested-next}
+use Rattle.history_book.proofs.NearbyLaws.{over-tested, tested-next}
 use Rattle.history_book.proofs.orders.nearby.waiting_of.Goals as goal
 
 pub loop-other-preserved-then-placed-other : goal.loop-other-preserved-then-placed-other

@@ -1,4 +1,4 @@
-use Rattle.history_book.specs.NearbyOrder.{IsTestedBelow}
+use Rattle.history_book.specs.Nearby.{IsTestedBelow}
 use Rattle.history_book.proofs.orders.nearby.waiting_of.Given as goal
 
 abbrev pub invariant-loop-other : goal.invariant-loop-other
