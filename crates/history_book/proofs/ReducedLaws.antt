@@ -1,16 +1,12 @@
 -- A relation and the pairs from which it follows by steps: the same least order, and no other cycles.
-use Rattle.std.proofs.Common.{◌≡◌, ◌⊎◌, inl, inr, ℕ, zero, suc, Bool, true, false, cond, List, [], ◌∷◌, ◌++◌, refl, ap, sym, subst, ◌∙◌}
+use Rattle.std.proofs.Common.{◌≡◌, ◌⊎◌, inl, inr, ℕ, zero, suc, Bool, true, cond, List, [], ◌∷◌, ◌++◌, refl, ap, sym, subst, ◌∙◌}
 use Rattle.std.specs.Prelude.{Option, Some, None, option_and_then}
+use Rattle.std.specs.Cmp.{both_ways}
 use Rattle.std.specs.List.{range_with_len}
 use Rattle.prog_tree.proofs.Elements.{IsMember, member_left}
 use Rattle.history_book.specs.Orders.{is_free, first_free, placed_by, least_order, LeadsTo, IsCycle, IsBefore, step, steps, IsUpTo, IsReduced}
 use Rattle.history_book.proofs.CycleLaws.{cycle-up_to}
 use Rattle.history_book.proofs.OrderLaws.{member-split, ranged_up_to, free_by_test, free_tested, first_free-is}
-
-same_test : (a b : Bool) → (a ≡ true → b ≡ true) → (b ≡ true → a ≡ true) → a ≡ b
-same_test true b to back = sym (to refl)
-same_test false true to back = back refl
-same_test false false to back = refl
 
 module _ (n : ℕ) (reduced before : ℕ → ℕ → Bool) (r : IsReduced n reduced before) where
   -- with each number, all that has to stand before it
@@ -22,7 +18,7 @@ module _ (n : ℕ) (reduced before : ℕ → ℕ → Bool) (r : IsReduced n redu
   placed_before placed closed _ _ next up (steps i k m e rest) = closed i k up (placed_before placed closed k m next (r.within i k e) rest) e
 
   free_same : (placed : List ℕ) → IsClosed placed → (m : ℕ) → IsUpTo n m → is_free reduced (range_with_len 1 n) placed m ≡ is_free before (range_with_len 1 n) placed m
-  free_same placed closed m here = same_test (is_free reduced (range_with_len 1 n) placed m) (is_free before (range_with_len 1 n) placed m) to back
+  free_same placed closed m here = both_ways (is_free reduced (range_with_len 1 n) placed m) (is_free before (range_with_len 1 n) placed m) to back
     where
       to : is_free reduced (range_with_len 1 n) placed m ≡ true → is_free before (range_with_len 1 n) placed m ≡ true
       to t =
