@@ -26,10 +26,7 @@ use version_store::Clash;
 fn is_last(looks: &[Look], look: &Look) -> bool
     ensures { IsTrue result ↔ (last_look looks.now ≡ Some look.now) }
 {
-    match looks.last() {
-        Some(last) => last.is_same(look),
-        None => false,
-    }
+    looks.last().is_some_and(|last| last.is_same(look))
 }
 
 impl<'a> Book<'a> {

@@ -29,10 +29,7 @@ impl Model for Precedence {
 fn ends_with(numbers: &[usize], number: usize) -> bool
     ensures { IsTrue result ↔ (slice_get numbers.now (length numbers.now - 1) ≡ Some number) }
 {
-    match numbers.last() {
-        Some(last) => *last == number,
-        None => false,
-    }
+    numbers.last().is_some_and(|last| *last == number)
 }
 
 impl Precedence {

@@ -178,10 +178,7 @@ fn add_sight(
 fn begins_with(sights: &[Sight], sight: &Sight) -> bool
     ensures { IsTrue result ↔ (slice_get sights.now 0 ≡ Some sight.now) }
 {
-    match sights.first() {
-        Some(first) => first.is_same(sight),
-        None => false,
-    }
+    sights.first().is_some_and(|first| first.is_same(sight))
 }
 
 // Adds what the looks of a commit say of it. A look that is at once repeated says nothing more.
