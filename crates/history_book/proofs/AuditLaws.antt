@@ -16,11 +16,18 @@ use Rattle.history_book.specs.declared.audit.AuditFault.TheVariants as audit
 use Rattle.history_book.specs.declared.instances.row.Ending.TheVariants.{Committed}
 use Rattle.history_book.specs.declared.instances.row.HistoryRow.{HistoryRow}
 
--- ---- one row more
+-- ---- what is left of a list
 
--- what is left after one row more
-pub one_more_yielded : (yielded rest all : List HistoryRow) (row : HistoryRow) (left : List HistoryRow) → yielded ++ left ≡ all → left ≡ row ∷ rest → (yielded ++ row ∷ []) ++ rest ≡ all
-one_more_yielded yielded rest all row left is first = append_assoc yielded (row ∷ []) rest ∙ ap (λ l. yielded ++ l) (sym first) ∙ is
+module _ {X : Type 0} where
+  -- a loop that takes one more of a list, and one that took all
+  pub more_yielded : (yielded rest all left : List X) (x : X) → yielded ++ left ≡ all → left ≡ x ∷ rest → (yielded ++ x ∷ []) ++ rest ≡ all
+  more_yielded yielded rest all left x is first = append_assoc yielded (x ∷ []) rest ∙ ap (λ (l : List X). yielded ++ l) (sym first) ∙ is
+
+  pub all_yielded : (yielded left all : List X) → yielded ++ left ≡ all → length left ≡ 0 → yielded ≡ all
+  all_yielded yielded [] all is none = sym (append-nil yielded) ∙ is
+  all_yielded yielded (x ∷ left) all is none = absurd (omega (arith, none))
+
+-- ---- one row more
 
 -- an audited book with one row more
 pub taken_up-audited : (set : Draft) (opening : TableState) (rows : List HistoryRow) (row : HistoryRow) → taken_up (audited set opening rows) row ≡ audited set opening (rows ++ row ∷ [])
@@ -74,8 +81,3 @@ pub room_left : (v : BookView) (set : Draft) (opening : TableState) (yielded lef
     yielded ++ left ≡ all → left ≡ row ∷ rest → length v.endings < length all
 room_left v set opening yielded left rest all row book is first =
     omega (arith, ap (λ (w : BookView). length w.endings) book, length-map-range_with_len Committed 1 (length yielded), ap length is, length-append yielded left, ap length first)
-
--- all rows were taken up
-pub none_left : (yielded left all : List HistoryRow) → yielded ++ left ≡ all → length left ≡ 0 → yielded ≡ all
-none_left yielded [] all is none = sym (append-nil yielded) ∙ is
-none_left yielded (row ∷ left) all is none = absurd (omega arith)

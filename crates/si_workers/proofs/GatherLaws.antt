@@ -3,7 +3,7 @@ use Rattle.std.proofs.Common.{◌≡◌, ℕ, zero, suc, ◌≤◌, ◌==◌, Bo
 use Rattle.std.specs.Prelude.{Option, Some, None, flat_map, slice_get, slice_set}
 use Rattle.std.specs.Option.{option_map}
 use Rattle.std.proofs.lemmas.Bool.Decides.{nat_tests}
-use Rattle.std.proofs.lemmas.List.{append-nil, append_assoc, length-map}
+use Rattle.std.proofs.lemmas.List.{append-nil, length-map}
 use Rattle.std.proofs.lemmas.List.Concat.{flat_map-append}
 use Rattle.std.proofs.lemmas.Option.{slice_get-map, slice_get_past}
 use Rattle.si_engine.proofs.PlaceLaws.{get-set_other, get-set_same}
@@ -15,17 +15,6 @@ use Rattle.si_workers.specs.declared.job.JobOutcome.{JobOutcome}
 use Rattle.si_workers.specs.declared.told.Told.{Told}
 use Rattle.si_workers.specs.declared.worker.Done.{Done}
 use Rattle.si_workers.specs.declared.told.Told.TheVariants.{Nothing, Often}
-
--- ---- what is left of a list
-
-module _ {X : Type 0} where
-  -- a loop that takes one more of a list, and one that took all
-  pub more_yielded : (yielded rest all left : List X) (x : X) → yielded ++ left ≡ all → left ≡ x ∷ rest → (yielded ++ x ∷ []) ++ rest ≡ all
-  more_yielded yielded rest all left x is first = append_assoc yielded (x ∷ []) rest ∙ ap (λ (l : List X). yielded ++ l) (sym first) ∙ is
-
-  pub all_yielded : (yielded left all : List X) → yielded ++ left ≡ all → length left ≡ 0 → yielded ≡ all
-  all_yielded yielded [] all is none = sym (append-nil yielded) ∙ is
-  all_yielded yielded (x ∷ left) all is none = absurd (omega (arith, none))
 
 -- ---- one report after another
 

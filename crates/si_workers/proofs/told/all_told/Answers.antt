@@ -1,4 +1,5 @@
-use Rattle.si_workers.proofs.GatherLaws.{told-worker, more_yielded}
+use Rattle.history_book.proofs.AuditLaws.{more_yielded}
+use Rattle.si_workers.proofs.GatherLaws.{told-worker}
 use Rattle.si_workers.proofs.told.all_told.Goals as goal
 
 pub loop-one-preserved : goal.loop-one-preserved

@@ -3,7 +3,7 @@ use Rattle.std.proofs.lemmas.Result.{err_from_is_err_and}
 use Rattle.prog_tree.specs.Tree.{draft_tree}
 use Rattle.history_book.specs.Audit.{audited, taken_up, IsRightRow, AreRightBehind}
 use Rattle.history_book.specs.View.{BookView, history_of, most_endings}
-use Rattle.history_book.proofs.AuditLaws.{one_more_yielded, taken_up-audited, right-push, refused_at, room_left, none_left}
+use Rattle.history_book.proofs.AuditLaws.{all_yielded, more_yielded, taken_up-audited, right-push, refused_at, room_left}
 use Rattle.history_book.proofs.book.Book.audit.Goals as goal
 
 pub loop-row-init : goal.loop-row-init
@@ -15,7 +15,7 @@ loop-row-preserved c =
     let set = c.args.set.now in
     let opening = c.args.opening in
     let right = subst (λ (v : BookView). IsRightRow (draft_tree v.set) v.opening (history_of v.rows) c.in-Some.row) before.1 c.in_ok-add_row.ensures.right in (
-      one_more_yielded c.loop-row.yielded _ _ c.in-Some.row _ before.0 c.in-Some.ensures.steps.0,
+      more_yielded c.loop-row.yielded _ _ _ c.in-Some.row before.0 c.in-Some.ensures.steps.0,
       c.in_ok-add_row.ensures.taken ∙ ap (λ v. taken_up v c.in-Some.row) before.1 ∙ taken_up-audited set opening c.loop-row.yielded c.in-Some.row,
       right-push (draft_tree set) opening [] c.loop-row.yielded c.in-Some.row before.2 right,
     )
@@ -33,7 +33,7 @@ pub returns-clause-book : goal.returns-clause-book
 returns-clause-book c =
     let before = c.loop-row.invariant in
     let none : length c.loop-row.row-iterator.rest.items ≡ 0 = omega (arith, c.in-None.ensures.steps.0) in
-    before.1 ∙ ap (audited c.args.set.now c.args.opening) (none_left c.loop-row.yielded _ c.args.rows.items before.0 none)
+    before.1 ∙ ap (audited c.args.set.now c.args.opening) (all_yielded c.loop-row.yielded _ c.args.rows.items before.0 none)
 
 pub add_row-requires-clause-room : goal.add_row-requires-clause-room
 add_row-requires-clause-room c =
@@ -45,4 +45,4 @@ pub returns-clause-right : goal.returns-clause-right
 returns-clause-right c =
     let before = c.loop-row.invariant in
     let none : length c.loop-row.row-iterator.rest.items ≡ 0 = omega (arith, c.in-None.ensures.steps.0) in
-    subst (AreRightBehind (draft_tree c.args.set.now) c.args.opening []) (none_left c.loop-row.yielded _ c.args.rows.items before.0 none) before.2
+    subst (AreRightBehind (draft_tree c.args.set.now) c.args.opening []) (all_yielded c.loop-row.yielded _ c.args.rows.items before.0 none) before.2
