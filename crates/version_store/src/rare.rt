@@ -8,7 +8,8 @@ use crate::tail::Tail;
 use std::alloc::{AllocError, Global};
 use std::marker::Model;
 
-/// A list that takes two words where it has never held an item. Contracts see the list.
+/// A list that takes two words where it holds nothing; one whose items went one by one keeps its
+/// block. Contracts see the list.
 #[derive(Debug, Drop)]
 pub struct Rare<T> {
     alloc: Global,
