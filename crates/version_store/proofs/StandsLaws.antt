@@ -10,11 +10,10 @@ use Rattle.prog_tree.specs.Table.{cell_cmp, cells_of, is_in, is_cell_among, Tabl
 use Rattle.prog_tree.proofs.TableStates.{IsTableState-changed, IsTableState-rows_in, IsTableState-rows_left, same_state, row_at-where, row_at-rows_left}
 use Rattle.version_store.specs.Clash.{last_touch}
 use Rattle.version_store.specs.Commits.{state_at}
-use Rattle.version_store.specs.Reading.{AllRise, RisesFrom, chain_at, value_at, last_number, with_commit, with_mark_by, with_change_by, with_opening_row, IsBelow}
+use Rattle.version_store.specs.Reading.{AllRise, RisesFrom, chain_at, value_at, last_number, with_commit, with_mark_by, with_change_by, with_opening_row, IsBelow, TrimsAll}
 use Rattle.version_store.specs.Regions.{seen_in, seen_left, IsSeen}
 use Rattle.version_store.specs.StandsFor.{Chain, no_chain, StoreView, StandsFor, AreCommits, chain_of, trimmed, size, EachHolds}
 use Rattle.version_store.specs.Trimming.{shown, versions_kept, marks_kept, touches_by, touches_above, within, beyond}
-use Rattle.version_store.specs.Trims.{TrimsAll}
 use Rattle.version_store.specs.Versions.{retained, reclaimed}
 use Rattle.version_store.proofs.CountLaws.{size_retained, retained-open, retained-push}
 use Rattle.version_store.proofs.PendingLaws.{touches-push, beyond_floor, untouched}

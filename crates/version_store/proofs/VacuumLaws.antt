@@ -1,6 +1,7 @@
 -- What the loops over touches keep.
 use Rattle.std.proofs.Common.{◌≡◌, ◌∙◌, ℕ, ◌+◌, ◌-◌, ◌^◌, ◌≤◌, min, Bool, true, false, ◌||◌, cond, if◌then◌else◌, leb, List, [], ◌∷◌, ◌++◌, length, take, refl, ap, sym, arith, append_assoc, append-nil}
 use Rattle.std.proofs.lemmas.Bool.{le-leb}
+use Rattle.std.proofs.lemmas.List.{take_all}
 use Rattle.prog_tree.specs.declared.cell.Cell.{Cell}
 use Rattle.prog_tree.specs.Table.{Cells, is_same_cell, is_cell_among}
 use Rattle.prog_tree.proofs.CellSets.{same-turned}
@@ -16,12 +17,8 @@ pub record Adds (number : ℕ) (cells rest : List Cell) (before now : List (ℕ 
   pub ends : now ++ numbered number rest ≡ before ++ numbered number cells
   pub first : take (length before) now ≡ before
 
-take_own : {A : Type 0} (xs : List A) → take (length xs) xs ≡ xs
-take_own [] = refl
-take_own (x ∷ xs) = ap (λ ys. x ∷ ys) (take_own xs)
-
 pub adds_first : (number : ℕ) (cells left : List Cell) (before : List (ℕ × Cell)) → left ≡ cells → Adds number cells left before before
-adds_first number cells left before is = record { ends = ap (λ ks. before ++ numbered number ks) is; first = take_own before }
+adds_first number cells left before is = record { ends = ap (λ ks. before ++ numbered number ks) is; first = take_all (length before) before (omega arith) }
 
 -- what begins with a list begins with it after a push
 pub first_push : {A : Type 0} (before now : List A) (x : A) → take (length before) now ≡ before → take (length before) (now ++ x ∷ []) ≡ before

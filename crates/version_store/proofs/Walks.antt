@@ -2,6 +2,7 @@
 use Rattle.std.proofs.Common.{◌≡◌, ◌∙◌, ℕ, ℤ, Bool, true, false, ◌||◌, cond, if◌then◌else◌, List, [], ◌∷◌, ◌++◌, refl, ap, sym, subst, arith, nat_lt}
 use Rattle.std.specs.Prelude.{Option, filter}
 use Rattle.std.specs.List.Sorted.{IsStrictlySortedBy}
+use Rattle.std.proofs.lemmas.Bool.{or_parts}
 use Rattle.std.proofs.lemmas.Bool.Decides.{nat_tests}
 use Rattle.prog_tree.specs.declared.cell.Cell.{Cell}
 use Rattle.prog_tree.specs.ChangeSet.{ChangeSet}
@@ -39,10 +40,6 @@ below_touch : (n : ℕ) (touch : Touch) (chain : Chain) → cut_from n (with_tou
 below_touch n (Change value) chain = cut_version n value chain
 below_touch n Keep chain = cut_mark n chain
 
-not_either : (a b : Bool) → (a || b) ≡ false → (a ≡ false) × (b ≡ false)
-not_either true b h = absurd (cc)
-not_either false b h = (refl, h)
-
 -- with the touches that are left, the chains are what they will be at the end; nothing below the number changes, and nothing at all of a cell that is not touched
 pub record AddsTouches (n : ℕ) (touches rest : Cells Touch) (before now : Cells Chain) : Type 0 where
   pub ends : (c : Cell) → with_touches n rest c (chain_at now c) ≡ with_touches n touches c (chain_at before c)
@@ -66,7 +63,7 @@ one_more_touch n touches left rest k touch before now next is so_far made holds_
   below = λ c. ap (cut_from n) (made c) ∙ go (is_same_cell k c) c ∙ h.below c;
   apart = λ c none.
       let both = h.apart c none in
-      let neither = not_either (is_same_cell c k) (is_cell_among (cells_of rest) c) both.0 in
+      let neither = or_parts (is_same_cell c k) (is_cell_among (cells_of rest) c) both.0 in
       (neither.1, made c ∙ ap (λ b. if b then with_touch n touch (chain_at now c) else chain_at now c) (same-turned k c ∙ neither.0) ∙ both.1);
   hold = λ holds. holds_next (h.hold holds);
 }

@@ -7,5 +7,4 @@ pub mod StandsFor
 pub mod Told
 pub mod Touches
 pub mod Trimming
-pub mod Trims
 pub mod Versions

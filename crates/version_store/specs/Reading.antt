@@ -4,7 +4,7 @@ use Rattle.std.specs.List.Sorted.{IsPartitionPoint}
 use Rattle.prog_tree.specs.declared.cell.Cell.{Cell}
 use Rattle.prog_tree.specs.ChangeSet.{ChangeSet, change_at, touches_cell}
 use Rattle.prog_tree.specs.Table.{Cells, TableState, at_cell, is_same_cell, is_cell_among}
-use Rattle.version_store.specs.StandsFor.{Chain, no_chain, HoldsSome}
+use Rattle.version_store.specs.StandsFor.{Chain, no_chain, HoldsSome, trimmed}
 
 -- the chain of a cell; a cell without a chain has an empty one
 abbrev pub chain_at : Cells Chain → Cell → Chain
@@ -122,6 +122,11 @@ MakesTouched w f before after =
 -- each chain is what f makes of it at its cell
 abbrev pub MakesEach : (Cell → Chain → Chain) → Cells Chain → Cells Chain → Type 0
 MakesEach f before after = (c : Cell) → chain_at after c ≡ f c (chain_at before c)
+
+-- each chain is trimmed, where those of other cells than these have nothing to drop
+abbrev pub TrimsAll : (f : ℕ) → List Cell → Cells Chain → Cells Chain → Type 0
+TrimsAll f cells before after =
+    ((c : Cell) → is_cell_among cells c ≡ false → trimmed f (chain_at before c) ≡ chain_at before c) → MakesEach (λ c. trimmed f) before after
 
 -- where all numbers were below n, each chain is the same
 abbrev pub KeepsBelow : ℕ → Cells Chain → Cells Chain → Type 0

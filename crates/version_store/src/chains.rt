@@ -6,12 +6,11 @@ ghost use Rattle.std.specs.List.Sorted.{IsStrictlySortedBy};
 ghost use Rattle.prog_tree.specs.Table.{cell_cmp, cells_of, row_at, IsTableState};
 ghost use Rattle.version_store.specs.Reading.{AllRise, chain_at, value_at, number_at};
 ghost use Rattle.version_store.specs.Reading.{opening_chains, with_opening_row, with_commit};
-ghost use Rattle.version_store.specs.Reading.{cut_from, IsGrown};
+ghost use Rattle.version_store.specs.Reading.{cut_from, IsGrown, TrimsAll};
 ghost use Rattle.version_store.specs.Reading.{MakesAt, MakesEach, MakesTouched, KeepsBelow, OthersHold};
 ghost use Rattle.version_store.specs.StandsFor.{no_chain, size, trimmed, EachHolds};
 ghost use Rattle.version_store.specs.Touches.{with_touch};
 ghost use Rattle.version_store.specs.Trimming.{within, beyond};
-ghost use Rattle.version_store.specs.Trims.{TrimsAll};
 
 use crate::chain::Chain;
 use crate::pending::Pending;
