@@ -56,6 +56,7 @@ impl Chain {
     }
 
     /// What the cell held after the first `number` commits.
+    #[inline]
     pub fn value_at(&self, number: u64) -> Option<i64>
         ensures { RisesFrom 0 self.now.versions → result ≡ value_at number self.now }
     {

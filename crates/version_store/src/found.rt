@@ -20,6 +20,7 @@ pub fn add_found(rows: &mut Rows, start: u64, cell: &Cell, chain: &Chain) -> Res
 }
 
 /// What is seen in a region of a cell.
+#[inline]
 pub fn seen_in(region: &Region, start: u64, cell: &Cell, chain: &Chain) -> Option<i64>
     ensures { RisesFrom 0 chain.now.versions →
         result ≡ seen_in region.now start cell.now chain.now }
@@ -48,6 +49,7 @@ pub fn seen_left(
 }
 
 /// Adds the row of a cell behind the others, where something is found of it.
+#[inline]
 pub fn push_row(
     rows: &mut Vec<(Cell, i64)>,
     cell: &Cell,

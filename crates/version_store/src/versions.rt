@@ -37,6 +37,7 @@ fn count_within(versions: &[Version], number: u64) -> usize
 }
 
 // What the cell of some versions held after the first `number` commits.
+#[inline(never)]
 fn value_among(versions: &[Version], number: u64) -> Option<i64>
     ensures { RisesFrom 0 versions.now → result ≡ value_after number None versions.now }
 {
@@ -107,6 +108,7 @@ impl Versions {
     }
 
     /// What the cell held after the first `number` commits.
+    #[inline]
     pub fn value_at(&self, number: u64) -> Option<i64>
         ensures { RisesFrom 0 self.now → result ≡ value_after number None self.now }
     {
