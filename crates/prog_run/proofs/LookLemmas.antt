@@ -6,7 +6,7 @@ use Rattle.prog_tree.specs.declared.cell.Cell.{Cell}
 use Rattle.prog_tree.specs.declared.progress.Progress.{Progress}
 use Rattle.prog_tree.specs.Table.{TableState}
 use Rattle.prog_tree.specs.ChangeSet.{ChangeSet, change_at}
-use Rattle.prog_run.specs.Task.{UseTree, OfCell}
+use Rattle.prog_run.specs.Task.{CellUseTree, OfCell}
 use Rattle.prog_run.specs.Task as task
 use Rattle.prog_run.specs.Looks.{AreFound, FoundBefore, asked_by}
 use Rattle.prog_run.specs.declared.next.Next.TheVariants.{Get}
@@ -19,7 +19,7 @@ pub found_same : (p q : Progress) → q.looks ≡ p.looks → FoundBefore p q
 found_same p q e m f = subst (AreFound m) e f
 
 -- a cell that the run has changed is not asked for
-pub asked_unchanged : (changes : ChangeSet) (cell : Cell) (usage : UseTree) → asked_by changes (task.Ask (OfCell cell usage)) ≡ Some (Get cell) → change_at changes cell ≡ None
+pub asked_unchanged : (changes : ChangeSet) (cell : Cell) (usage : CellUseTree) → asked_by changes (task.Ask (OfCell cell usage)) ≡ Some (Get cell) → change_at changes cell ≡ None
 asked_unchanged changes cell usage e = by_change (change_at changes cell) refl e
   where
     by_change : (o : Option (Option ℤ)) → change_at changes cell ≡ o → (if is_some o then None else Some (Get cell)) ≡ Some (Get cell) → change_at changes cell ≡ None

@@ -21,7 +21,7 @@ use Rattle.prog_tree.specs.Steps.{did, looked}
 use Rattle.prog_tree.specs.Evaluation.{Flow, GoesOn, Stops, with_value, seen_or, cell_of, region_of, own_cells, rows_seen, run_statement, rows_without}
 use Rattle.prog_run.specs.Cursor.{needs_store}
 use Rattle.prog_run.specs.Looks.{AreFound, FoundBefore, region_look, seen_rows}
-use Rattle.prog_run.specs.Task.{UseTree, RegionUseTree, Lists, OfCell, OfRegion, TaskTree, task_of, listing_task, next_task, use_flow, rows_flow, task_flow}
+use Rattle.prog_run.specs.Task.{CellUseTree, RegionUseTree, Lists, OfCell, OfRegion, TaskTree, task_of, listing_task, next_task, use_flow, rows_flow, task_flow}
 use Rattle.prog_run.specs.Task as task
 use Rattle.prog_run.specs.Statement.{changes_with, IsFlow, IsBegun}
 use Rattle.prog_run.specs.declared.next.Step.{Step}
@@ -211,7 +211,7 @@ module _ (l : Look) (p : Progress) (flow : TableState → Flow) (half : Flow) (i
   halves (Over Ready) r h = absurd h
 
 -- a look at a cell that the run has not changed
-pub cell_done : (cell : Cell) (usage : UseTree) (held : Option ℤ) (p : Progress) → change_at p.changes cell ≡ None → (n : Step) (r : Progress) →
+pub cell_done : (cell : Cell) (usage : CellUseTree) (held : Option ℤ) (p : Progress) → change_at p.changes cell ≡ None → (n : Step) (r : Progress) →
     IsFlow (use_flow usage cell held (looked (look.One cell held) p)) n (looked (look.One cell held) p) r → IsDoneBy (λ m. task_flow m (task.Ask (OfCell cell usage)) p) n p r
 cell_done cell usage held p unchanged =
     halves (look.One cell held) p (λ m. task_flow m (task.Ask (OfCell cell usage)) p) (use_flow usage cell held (looked (look.One cell held) p))

@@ -18,7 +18,7 @@ use Rattle.prog_tree.specs.Table.{TableState}
 use Rattle.prog_tree.specs.Evaluation.{Flow, with_value, and_then, ended, turns_of, own_cells, run_statement, rows_without}
 use Rattle.prog_run.specs.Todo.{TurnsTree, CursorTree, listed, with_rest, todo}
 use Rattle.prog_run.specs.Cursor.{BeginsWith, is_store_stmt, is_store, SameTodo, KeepsStore, IsOver}
-use Rattle.prog_run.specs.Task.{UseTree, RegionUseTree, Counts, Sums, Lists, AskedTree, OfCell, OfRegion, TaskTree, asked_tree, use_tree, task_of, task_of_stmt, next_task, use_flow, rows_flow, task_flow}
+use Rattle.prog_run.specs.Task.{CellUseTree, RegionUseTree, Counts, Sums, Lists, AskedTree, OfCell, OfRegion, TaskTree, asked_tree, cell_use_tree, task_of, task_of_stmt, next_task, use_flow, rows_flow, task_flow}
 use Rattle.prog_run.specs.Task as task
 use Rattle.prog_run.specs.Looks.{AreFound, asked_by, region_look, seen_rows}
 use Rattle.prog_run.specs.Statement.{changes_with, IsFlow, IsBegun}
@@ -101,7 +101,7 @@ store_first (Loop l body) rest = refl
 -- ---- answers
 
 module _ (tables : List TableDecl) (c d : CursorTree) (p q : Progress) where
-  pub cell_step : (cell : Cell) (usage : UseTree) (held : Option ℤ) → IsAt tables (OfCell cell usage) c p → (n : Step) → d ≡ cursor_after n c →
+  pub cell_step : (cell : Cell) (usage : CellUseTree) (held : Option ℤ) → IsAt tables (OfCell cell usage) c p → (n : Step) → d ≡ cursor_after n c →
       IsFlow (use_flow usage cell held (looked (look.One cell held) p)) n (looked (look.One cell held) p) q → IsStep tables n c p d q
   cell_step cell usage held h n at done =
       let first = first_statement tables c.here.rest p.env (task.Ask (OfCell cell usage)) refl h.0 in
@@ -240,7 +240,7 @@ step_question (Over end) = refl
 -- after a step the run asks for no cell that it has changed
 pub step_unchanged : (tables : List TableDecl) (c d : CursorTree) (p q : Progress) (n : Step) → IsStep tables n c p d q → (cell : Cell) → next_of n ≡ Get cell → change_at q.changes cell ≡ None
 step_unchanged tables c d p q (Asks (asked.OfCell k usage)) h cell e =
-    let same : k ≡ cell = cc in subst (λ (x : Cell). change_at q.changes x ≡ None) same (asked_unchanged q.changes k (use_tree usage) h.3.1)
+    let same : k ≡ cell = cc in subst (λ (x : Cell). change_at q.changes x ≡ None) same (asked_unchanged q.changes k (cell_use_tree usage) h.3.1)
 step_unchanged tables c d p q (Asks (asked.OfRegion region usage)) h cell e = absurd (cc)
 step_unchanged tables c d p q (Did deed) h cell e = absurd (cc)
 step_unchanged tables c d p q (Over end) h cell e = absurd (cc)

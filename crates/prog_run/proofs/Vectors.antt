@@ -15,7 +15,7 @@ use Rattle.prog_tree.specs.Syntax.{ExprTree, Literal, Named, Plus, Less, KeyTree
 use Rattle.prog_tree.specs.Syntax as s
 use Rattle.prog_tree.specs.Steps.{started_with, wrote, bound, did}
 use Rattle.prog_tree.specs.Table.{TableState}
-use Rattle.prog_tree.specs.Evaluation.{GoesOn, rows_seen, begun_turn}
+use Rattle.prog_tree.specs.Evaluation.{GoesOn, cell_in, rows_seen, begun_turn}
 use Rattle.prog_run.specs.Looks.{AreFound, asked_by, region_look}
 use Rattle.prog_run.specs.Task.{Counts, Sums, Lists, task_of, next_task, rows_flow}
 use Rattle.prog_run.specs.Seen.{rows_before}
@@ -42,25 +42,22 @@ too_large = Plus (number (pos (2 ^ 63 - 1))) (number (pos 1))
 abbrev cell : ℤ → Cell
 cell k = record { table = 0; first = k; second = pos 0 }
 
-abbrev cell_2 : ℤ → ℤ → Cell
-cell_2 a b = record { table = 1; first = a; second = b }
-
 abbrev nothing_yet : Progress
 nothing_yet = started_with ((codes "d", pos 7) ∷ [])
 
 -- put e[7, 2] = 5; delete e[7, 1];
 abbrev own : Progress
-own = wrote (cell_2 (pos 7) (pos 1)) None (wrote (cell_2 (pos 7) (pos 2)) (Some (pos 5)) nothing_yet)
+own = wrote (cell_in 1 (pos 7) (pos 1)) None (wrote (cell_in 1 (pos 7) (pos 2)) (Some (pos 5)) nothing_yet)
 
 abbrev region : Region
 region = record { table = 1; first_low = pos 7; first_high = pos 7; second_low = pos 1; second_high = pos 3 }
 
 abbrev opening : TableState
-opening = (cell_2 (pos 7) (pos 1), pos 9) ∷ (cell_2 (pos 7) (pos 3), pos 4) ∷ (cell_2 (pos 8) (pos 2), pos 1) ∷ []
+opening = (cell_in 1 (pos 7) (pos 1), pos 9) ∷ (cell_in 1 (pos 7) (pos 3), pos 4) ∷ (cell_in 1 (pos 8) (pos 2), pos 1) ∷ []
 
 -- the rows of the region in that state
 abbrev answered : TableState
-answered = (cell_2 (pos 7) (pos 1), pos 9) ∷ (cell_2 (pos 7) (pos 3), pos 4) ∷ []
+answered = (cell_in 1 (pos 7) (pos 1), pos 9) ∷ (cell_in 1 (pos 7) (pos 3), pos 4) ∷ []
 
 -- ---- questions
 
@@ -93,19 +90,19 @@ count_asks = refl
 -- ---- looks
 
 abbrev own_look : Look
-own_look = look.Range region (cell_2 (pos 7) (pos 1) ∷ cell_2 (pos 7) (pos 2) ∷ []) ((cell_2 (pos 7) (pos 3), pos 4) ∷ [])
+own_look = look.Range region (cell_in 1 (pos 7) (pos 1) ∷ cell_in 1 (pos 7) (pos 2) ∷ []) ((cell_in 1 (pos 7) (pos 3), pos 4) ∷ [])
 
 pub look_leaves_out_own : region_look own.changes region answered ≡ own_look
 look_leaves_out_own = refl
 
-pub look_is_found : AreFound opening (own_look ∷ look.One (cell_2 (pos 8) (pos 2)) (Some (pos 1)) ∷ [])
+pub look_is_found : AreFound opening (own_look ∷ look.One (cell_in 1 (pos 8) (pos 2)) (Some (pos 1)) ∷ [])
 look_is_found = (refl, (refl, tt))
 
 -- two rows seen: that of the look, and the one that the run has set
 abbrev seen : TableState
-seen = rows_seen region own.changes.cells ((cell_2 (pos 7) (pos 3), pos 4) ∷ [])
+seen = rows_seen region own.changes.cells ((cell_in 1 (pos 7) (pos 3), pos 4) ∷ [])
 
-pub seen_rows_are : seen ≡ (cell_2 (pos 7) (pos 2), pos 5) ∷ (cell_2 (pos 7) (pos 3), pos 4) ∷ []
+pub seen_rows_are : seen ≡ (cell_in 1 (pos 7) (pos 2), pos 5) ∷ (cell_in 1 (pos 7) (pos 3), pos 4) ∷ []
 seen_rows_are = refl
 
 pub seen_count : rows_flow (Counts (codes "n")) region seen nothing_yet ≡ GoesOn (bound (codes "n") (pos 2) (did (Counted region (pos 2)) nothing_yet))
@@ -115,7 +112,7 @@ pub seen_total : rows_flow (Sums (codes "n")) region seen nothing_yet ≡ GoesOn
 seen_total = refl
 
 -- the row of cell (7, 2) comes behind one row of the snapshot
-pub own_place : rows_before (cell_2 (pos 7) (pos 2)) answered ≡ 1
+pub own_place : rows_before (cell_in 1 (pos 7) (pos 2)) answered ≡ 1
 own_place = refl
 
 -- ---- turns

@@ -12,7 +12,7 @@ use Rattle.prog_tree.specs.ChangeSet.{ChangeSet, with_change, with_kept}
 use Rattle.prog_tree.specs.Steps.{looked}
 use Rattle.prog_tree.specs.Table.{TableState}
 use Rattle.prog_tree.specs.Evaluation.{Flow, GoesOn, Stops}
-use Rattle.prog_run.specs.Task.{UseTree, RegionUseTree, TaskTree, asked_tree, use_flow, rows_flow, task_flow}
+use Rattle.prog_run.specs.Task.{CellUseTree, RegionUseTree, TaskTree, asked_tree, use_flow, rows_flow, task_flow}
 use Rattle.prog_run.specs.Task as task
 use Rattle.prog_run.specs.Looks.{asked_by, question_of, region_look, seen_rows}
 use Rattle.prog_run.specs.declared.next.Step.{Step}
@@ -44,7 +44,7 @@ abbrev pub IsFlowBehind : Look → (Progress → Flow) → Step → Progress →
 IsFlowBehind l go step p q = IsFlow (go (looked l p)) step (looked l p) q
 
 -- a statement that asked for a cell was finished with what the cell held
-abbrev pub IsCellAnswered : UseTree → Cell → Option ℤ → Step → Progress → Progress → Type 0
+abbrev pub IsCellAnswered : CellUseTree → Cell → Option ℤ → Step → Progress → Progress → Type 0
 IsCellAnswered usage cell held step p q = IsFlowBehind (look.One cell held) (use_flow usage cell held) step p q
 
 -- a statement that asked for a region was finished with these rows of the snapshot

@@ -26,11 +26,11 @@ use Rattle.prog_run.specs.declared.task.Task.{Task}
 use Rattle.prog_run.specs.declared.task.Task.TheVariants as task
 
 -- what a statement does with what its cell holds; an insert has its value
-pub data UseTree : Type 0 where
-  Get : (name : Name) (otherwise : ExprTree) → UseTree
-  Need : (name : Name) → UseTree
-  Lacks : UseTree
-  Insert : (value : ℤ) → UseTree
+pub data CellUseTree : Type 0 where
+  Get : (name : Name) (otherwise : ExprTree) → CellUseTree
+  Need : (name : Name) → CellUseTree
+  Lacks : CellUseTree
+  Insert : (value : ℤ) → CellUseTree
 
 -- what a statement does with the rows of its region: it binds their number or their total, or makes a turn for each
 pub data RegionUseTree : Type 0 where
@@ -40,7 +40,7 @@ pub data RegionUseTree : Type 0 where
 
 -- a look, and what its statement does with what it finds
 pub data AskedTree : Type 0 where
-  OfCell : (cell : Cell) (usage : UseTree) → AskedTree
+  OfCell : (cell : Cell) (usage : CellUseTree) → AskedTree
   OfRegion : (region : Region) (usage : RegionUseTree) → AskedTree
 
 pub data TaskTree : Type 0 where
@@ -51,11 +51,11 @@ pub data TaskTree : Type 0 where
 
 -- ---- those of the code, as plain values
 
-abbrev pub use_tree : CellUse → UseTree
-use_tree (of_cell.Get name otherwise) = Get name.now (expr_tree otherwise.now)
-use_tree (of_cell.Need name) = Need name.now
-use_tree of_cell.Lacks = Lacks
-use_tree (of_cell.Insert value) = Insert value
+abbrev pub cell_use_tree : CellUse → CellUseTree
+cell_use_tree (of_cell.Get name otherwise) = Get name.now (expr_tree otherwise.now)
+cell_use_tree (of_cell.Need name) = Need name.now
+cell_use_tree of_cell.Lacks = Lacks
+cell_use_tree (of_cell.Insert value) = Insert value
 
 abbrev pub region_use_tree : RegionUse → RegionUseTree
 region_use_tree (of_region.Count name) = Counts name.now
@@ -63,7 +63,7 @@ region_use_tree (of_region.Sum name) = Sums name.now
 region_use_tree (of_region.List listing body) = Lists (listing_tree listing.now) (block_tree body.now)
 
 abbrev pub asked_tree : Asked → AskedTree
-asked_tree (asked.OfCell cell usage) = OfCell cell (use_tree usage)
+asked_tree (asked.OfCell cell usage) = OfCell cell (cell_use_tree usage)
 asked_tree (asked.OfRegion region usage) = OfRegion region (region_use_tree usage)
 
 abbrev pub task_tree : Task → TaskTree
@@ -142,7 +142,7 @@ abbrev pub insert_flow : ℤ → Cell → Option ℤ → Progress → Flow
 insert_flow v cell seen p =
     if_present seen (λ w. Stops (Present cell) p) (GoesOn (did (deed.Put cell v) (wrote cell (Some v) p)))
 
-abbrev pub use_flow : UseTree → Cell → Option ℤ → Progress → Flow
+abbrev pub use_flow : CellUseTree → Cell → Option ℤ → Progress → Flow
 use_flow (Get name otherwise) cell = get_flow name otherwise cell
 use_flow (Need name) cell = need_flow name cell
 use_flow Lacks cell = lacks_flow cell

@@ -2,7 +2,7 @@
 ghost use Rattle.std.specs.Prelude.{◌≡◌, IfOk, OnOk, OnErr};
 ghost use Rattle.prog_tree.specs.Steps.{did};
 ghost use Rattle.prog_tree.specs.Tree.{expr_tree};
-ghost use Rattle.prog_run.specs.Task.{Counts, Sums, use_tree, task_tree};
+ghost use Rattle.prog_run.specs.Task.{Counts, Sums, cell_use_tree, task_tree};
 ghost use Rattle.prog_run.specs.Task.{get_flow, need_flow, lacks_flow, insert_flow};
 ghost use Rattle.prog_run.specs.Task.{use_flow, rows_flow};
 ghost use Rattle.prog_run.specs.Statement.{written_by, IsFlow, IsBegun, IsCellAnswered};
@@ -54,7 +54,7 @@ pub fn answer_cell<'a>(
     held: Option<i64>,
 ) -> Result<Step<'a>, AllocError>
     ensures flow { IfOk result
-        (λ s. IsCellAnswered (use_tree usage.entry) cell held s progress.old progress.new) }
+        (λ s. IsCellAnswered (cell_use_tree usage.entry) cell held s progress.old progress.new) }
     ensures err { OnErr result (progress.new ≡ progress.old) }
 {
     let looks = progress.looks.len();
@@ -74,7 +74,7 @@ fn use_cell<'a>(
     held: Option<i64>,
 ) -> Result<Step<'a>, AllocError>
     ensures flow { IfOk result
-        (λ s. IsFlow (use_flow (use_tree usage.entry) cell held progress.old) s progress.old
+        (λ s. IsFlow (use_flow (cell_use_tree usage.entry) cell held progress.old) s progress.old
         progress.new) }
     ensures err { OnErr result (progress.new ≡ progress.old) }
 {

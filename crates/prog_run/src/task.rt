@@ -5,8 +5,8 @@ ghost use Rattle.prog_tree.specs.Evaluation.{cell_of};
 ghost use Rattle.prog_tree.specs.Tree.{key_tree, range_tree, stmt_tree};
 ghost use Rattle.prog_run.specs.Cursor.{is_store_stmt};
 ghost use Rattle.prog_run.specs.Looks.{question_of};
-ghost use Rattle.prog_run.specs.Task.{AskedTree, TaskTree, asked_tree, use_tree, region_use_tree};
-ghost use Rattle.prog_run.specs.Task.{task_tree};
+ghost use Rattle.prog_run.specs.Task.{AskedTree, TaskTree, asked_tree, task_tree};
+ghost use Rattle.prog_run.specs.Task.{cell_use_tree, region_use_tree};
 ghost use Rattle.prog_run.specs.Task.{task_at, task_in, task_of_stmt};
 ghost use Rattle.prog_run.specs.Step.{next_asking};
 ghost use Rattle.prog_run.specs.View.{asked_region};
@@ -115,7 +115,7 @@ fn look_at<'a>(
 ) -> Option<Task<'a>>
     ensures { option_map task_tree result
         ≡ task_at set.now.tables.items table.now (key_tree key.now) env.now
-        (λ cell. Some (TaskTree.Ask (AskedTree.OfCell cell (use_tree usage.entry)))) }
+        (λ cell. Some (TaskTree.Ask (AskedTree.OfCell cell (cell_use_tree usage.entry)))) }
 {
     let cell = cell_at(set, table, key, env)?;
     Some(Task::Ask(Asked::OfCell { cell, usage }))

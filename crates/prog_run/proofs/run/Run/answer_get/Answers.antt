@@ -3,7 +3,7 @@ use Rattle.std.specs.Prelude.{Some}
 use Rattle.prog_tree.specs.declared.progress.Progress.{Progress}
 use Rattle.prog_tree.specs.Tree.{program_tree}
 use Rattle.prog_run.specs.Cursor.{cursor_tree}
-use Rattle.prog_run.specs.Task.{use_tree}
+use Rattle.prog_run.specs.Task.{cell_use_tree}
 use Rattle.prog_run.specs.View.{IsTrueRun, IsTrueTo}
 use Rattle.prog_run.specs.declared.task.Asked.TheVariants as asked
 use Rattle.prog_run.proofs.GrowLemmas.{true_at}
@@ -32,7 +32,7 @@ still_true c =
     let n = c.in_ok-step.step in
     let waits : r.asked ≡ Some (asked.OfCell s.cell s.usage) = first_of (search rules, cc) in
     let at = c.self.invariant.1 (asked.OfCell s.cell s.usage) waits in
-    let step = cell_step r.set.now.tables.items old new r.progress q s.cell (use_tree s.usage) c.args.held at.1 n c.go_on.ensures c.in_ok-step.ensures.flow in
+    let step = cell_step r.set.now.tables.items old new r.progress q s.cell (cell_use_tree s.usage) c.args.held at.1 n c.go_on.ensures c.in_ok-step.ensures.flow in
     true_answered r.set.now.tables.items (program_tree r.program.now) r.args r.end c.end-self-inside.result old new r.progress q n at.0 c.end-self-inside.ensures c.self.invariant.0 step
 
 pub invariant_of-self-2 : goal.invariant_of-self-2
