@@ -61,8 +61,8 @@ pub fn found_last<'l>(looks: &'l [Look], region: &Region) -> Option<&'l [(Cell, 
     }
 }
 
-/// A run's own changes in a region.
-pub fn own_changes(
+// A run's own changes in a region.
+fn own_changes(
     alloc: Global,
     changes: &Changes,
     region: &Region,
@@ -82,8 +82,8 @@ pub fn own_changes(
     Ok(own)
 }
 
-/// The cells of changes.
-pub fn changed_cells(alloc: Global, own: &[(Cell, Option<i64>)]) -> Result<Vec<Cell>, AllocError>
+// The cells of changes.
+fn changed_cells(alloc: Global, own: &[(Cell, Option<i64>)]) -> Result<Vec<Cell>, AllocError>
     ensures { IfOk result (λ cells. cells.items ≡ cells_of own.now) }
 {
     let mut cells = Vec::with_capacity(alloc, own.len())?;
