@@ -1,8 +1,9 @@
 //! Checked sets: faults with their places, and the numbers of names.
 
 use example_sets::{LEDGER, set_of};
-use prog_check::{CheckFault, Place, ProgramSet, check};
+use prog_check::{CheckFault, Place, ProgramSet, check, table_use};
 use prog_text::parse;
+use prog_tree::{Arity, Stmt};
 use std::alloc::Global;
 use std::process::Abort;
 use std::test::Fail;
@@ -120,5 +121,50 @@ fn a_set_finds_its_names(rt: HostRuntime) -> Result<(), Fail> {
     let copy = copy_of(rt.alloc(), LEDGER)?;
     compare(&rt, &copy);
     drop(copy);
+    Ok(())
+}
+
+/// Statements that use a table by a key and by a range, an `each`, and two that use none.
+const USERS: &str = "\
+table t 1;
+table u 2;
+program P(a) {
+  let x = get t[a] else 0;
+  let n = count u[a, 1..2];
+  each k, v in t[1..3] { }
+  let y = x + n;
+  reply y;
+}
+";
+
+/// Which tables they use, and for how many columns.
+const USED: [Option<(&str, Arity)>; 5] = [
+    Some(("t", Arity::One)),
+    Some(("u", Arity::Two)),
+    Some(("t", Arity::One)),
+    None,
+    None,
+];
+
+fn used(stmt: &Stmt) -> Option<(&str, Arity)> {
+    match table_use(stmt) {
+        Some((name, arity)) => Some((name.as_str(), arity)),
+        None => None,
+    }
+}
+
+fn compare_used(rt: &impl Abort, set: &ProgramSet) {
+    let program = set.draft().programs.get(0).expect(rt, "a program");
+    for (number, wanted) in USED.iter().enumerate() {
+        let stmt = program.body.stmts.get(number).expect(rt, "a statement");
+        assert!(rt; used(stmt) == *wanted, "{number}");
+    }
+}
+
+#[test]
+fn statements_use_their_tables(rt: HostRuntime) -> Result<(), Fail> {
+    let set = set_of(rt.alloc(), USERS)?;
+    compare_used(&rt, &set);
+    drop(set);
     Ok(())
 }

@@ -21,3 +21,4 @@ pub use limits::{
 };
 pub use path::{Access, Accesses, Choices, Column, Kind, Path, Term};
 pub use set::{ProgramSet, check};
+pub use uses::table_use;

@@ -1,6 +1,5 @@
 //! What a statement does to its table.
-ghost use Rattle.std.specs.Prelude.{◌≡◌, option_copied};
-ghost use Rattle.std.specs.Option.{option_map};
+ghost use Rattle.std.specs.Prelude.{◌≡◌};
 ghost use Rattle.prog_tree.specs.Numbering.{number_of};
 ghost use Rattle.prog_tree.specs.Tree.{stmt_tree};
 ghost use Rattle.prog_check.specs.Accesses.{grows_used, number_used};
@@ -8,7 +7,7 @@ ghost use Rattle.prog_check.specs.Tables.{declaration, grows};
 ghost use Rattle.prog_check.specs.Uses.{used_table_by};
 ghost use Rattle.prog_paths.specs.Trails.{kinds_by};
 
-use prog_check::{Kind, ProgramSet};
+use prog_check::{Kind, ProgramSet, table_use};
 use prog_tree::{Name, Stmt};
 
 /// The kinds of a statement's accesses in a row, two at most.
@@ -31,26 +30,6 @@ pub fn kinds(grow: bool, stmt: &Stmt) -> &'static [Kind]
     }
 }
 
-/// The name of the table that a statement uses.
-fn table_name(stmt: &Stmt) -> Option<&Name>
-    ensures { option_copied result
-        ≡ option_map (λ used. used.0) (used_table_by (stmt_tree stmt.now)) }
-{
-    match stmt {
-        Stmt::Get { table, .. }
-        | Stmt::Need { table, .. }
-        | Stmt::Count { table, .. }
-        | Stmt::Sum { table, .. }
-        | Stmt::Lacks { table, .. }
-        | Stmt::Put { table, .. }
-        | Stmt::Insert { table, .. }
-        | Stmt::Delete { table, .. }
-        | Stmt::Keep { table, .. } => Some(table),
-        Stmt::Each { listing, .. } => Some(&listing.table),
-        Stmt::Bind { .. } | Stmt::Branch { .. } | Stmt::Reply { .. } | Stmt::Abort => None,
-    }
-}
-
 /// The number of the table of a name, and whether it grows.
 fn table_at(set: &ProgramSet, name: &Name) -> (usize, bool)
     ensures number { result.0 ≡ number_of set.now.tables.items name.now }
@@ -70,8 +49,8 @@ pub fn table_used(set: &ProgramSet, stmt: &Stmt) -> (usize, bool)
     ensures grow { result.1
         ≡ grows_used set.now.tables.items (used_table_by (stmt_tree stmt.now)) }
 {
-    match table_name(stmt) {
-        Some(name) => table_at(set, name),
+    match table_use(stmt) {
+        Some((name, _)) => table_at(set, name),
         None => (0, false),
     }
 }
