@@ -261,7 +261,10 @@ behind_words : (depth : ℕ) (b : BlockTree) (rest : List Mark) → words_of (el
 behind_words depth BlockEnd rest = refl
 behind_words depth (Then s others) rest = simp (filter_map-append, append_assoc)
 behind_words depth (Branch test a b others) rest = simp (filter_map-append, append_assoc)
-behind_words depth (Each l body others) rest = simp (filter_map-append, append_assoc)
+behind_words depth (Each l body others) rest =
+    let second : List Mark = block_marks (suc depth) (Each l body others) in
+    ap (λ (ts : List Token). t.Sign sign.CloseBlock ∷ t.Sign sign.Else ∷ t.Sign sign.OpenBlock ∷ ts)
+    (words_append second (close_line depth ++ rest) ∙ sym (append_assoc (words_of second) (t.Sign sign.CloseBlock ∷ []) (words_of rest)))
 
 if_words : (depth : ℕ) (test : TestTree) (rest : List Mark) → words_of (if_line depth test ++ rest) ≡ t.Sign sign.If ∷ (words_of (test_marks test) ++ t.Sign sign.OpenBlock ∷ words_of rest)
 if_words depth test rest = simp (filter_map-append, append_assoc)
@@ -296,8 +299,14 @@ branch_again depth xs ts es us test first second rest a b c d =
 abbrev each_front : ListingTree → List Token → List Token
 each_front l ts = t.Sign sign.Each ∷ t.Name l.key ∷ t.Sign sign.Comma ∷ t.Name l.value ∷ t.Sign sign.In ∷ ts
 
+-- the end of a line that opens a block
+opened_words : (marks rest : List Mark) → words_of (((marks ++ Space ∷ Word (t.Sign sign.OpenBlock) ∷ []) ++ LineEnd ∷ []) ++ rest) ≡ words_of marks ++ t.Sign sign.OpenBlock ∷ words_of rest
+opened_words marks rest =
+    let opening : List Mark = Space ∷ Word (t.Sign sign.OpenBlock) ∷ [] in
+    ap words_of (append_assoc (marks ++ opening) (LineEnd ∷ []) rest ∙ append_assoc marks opening (LineEnd ∷ rest)) ∙ words_append marks (opening ++ LineEnd ∷ rest)
+
 each_line_words : (depth : ℕ) (l : ListingTree) (rest : List Mark) → words_of (each_line depth l ++ rest) ≡ each_front l (words_of (range_marks l.table l.range) ++ t.Sign sign.OpenBlock ∷ words_of rest)
-each_line_words depth l rest = simp (filter_map-append, append_assoc)
+each_line_words depth l rest = ap (each_front l) (opened_words (range_marks l.table l.range) rest)
 
 each_words : (depth : ℕ) (l : ListingTree) (body rest : BlockTree)
     → words_of (block_marks depth (Each l body rest)) ≡ each_front l (words_of (range_marks l.table l.range) ++ ((t.Sign sign.OpenBlock ∷ (words_of (block_marks (suc depth) body) ++ t.Sign sign.CloseBlock ∷ [])) ++ words_of (block_marks depth rest)))
