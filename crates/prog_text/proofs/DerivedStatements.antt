@@ -7,7 +7,7 @@ use Rattle.prog_text.specs.declared.lexing.token.Sign.TheVariants as sign
 use Rattle.prog_text.specs.declared.lexing.token.Token.TheVariants as t
 use Rattle.prog_text.specs.Grammar.{IsExpr, IsTest, IsKey, IsRange, IsStatement, bind, get, need, count, sum, lacks, put, insert, delete, keep, reply, abort, IsStatements, nothing, IsBlock, block, IsElse, missing, present}
 use Rattle.prog_text.specs.Grammar as g
-use Rattle.prog_text.specs.Reading.{Reading, ◌>>=◌, after_sign, expect, name_at, expr_at, test_at, key_at, range_at, last_expr_at, last_key_at, last_range_at, assigned_at, bind_at, get_at, need_at, count_at, summed_at, bound_at, let_at, lacks_at, put_at, insert_at, delete_at, keep_at, reply_at, abort_at, statement_at, block_at, second_at, behind_second, behind_first, branch_at, listing_at, behind_turns, each_at, more_at, body_within, body_at}
+use Rattle.prog_text.specs.Reading.{Reading, ◌>>=◌, made_into, after_sign, expect, name_at, expr_at, test_at, key_at, range_at, last_expr_at, last_key_at, last_range_at, assigned_at, bind_at, get_at, bound_at, let_at, statement_at, block_at, second_at, behind_second, behind_first, branch_at, listing_at, behind_turns, each_at, more_at, body_within, body_at}
 use Rattle.prog_text.proofs.Sound.{Phrase, behind, Sound, then_sound, token_sound, one_sound, done_sound, fault_sound, sound_map, mapped_sound, behind_sign_sound}
 use Rattle.prog_text.proofs.OneToken.{finds_sign, alone, one_sign, one_name, a_name}
 use Rattle.prog_text.proofs.DerivedExprs.{expr_sound, test_sound, IsKeyOf, key_sound, IsRangeOf, range_sound}
@@ -84,7 +84,7 @@ unfolding get_at
 get_sound x = keyed_sound (behind (t.Sign sign.Get ∷ []) (IsBound x)) sign.Else (λ k e. Get x k.0 k.1 e) (λ ks ts k e dk d. get x k.0 ks ts k.1 e dk d)
 
 bound_sound : (x : Name) (ts : List Token) → Sound (IsBound x) ts (bound_at x ts)
-unfolding bound_at need_at count_at summed_at
+unfolding bound_at
 bound_sound x (t.Sign sign.Get ∷ ts) = token_sound (IsBound x) (t.Sign sign.Get) ts _ (get_sound x ts)
 bound_sound x (t.Sign sign.Need ∷ ts) =
     of_last IsKeyOf (let_front x) (t.Sign sign.Need) (λ k. Need x k.0 k.1) (λ ks k d. need x k.0 ks k.1 d) ts (last_key_at ts) (last_key_sound ts)
@@ -108,14 +108,13 @@ puts _ _ (assigned ks ts k e dk d) = put k.0 ks ts k.1 e dk d
 inserts : (us : List Token) (x : (Name × KeyTree) × ExprTree) → IsAssigned us x → IsStatement (t.Sign sign.Insert ∷ us) (Insert x.0.0 x.0.1 x.1)
 inserts _ _ (assigned ks ts k e dk d) = insert k.0 ks ts k.1 e dk d
 
-abort_sound : (ts : List Token) → Sound (behind (t.Sign sign.Abort ∷ []) IsStatement) ts (abort_at ts)
-unfolding abort_at
+abort_sound : (ts : List Token) → Sound (behind (t.Sign sign.Abort ∷ []) IsStatement) ts (made_into (λ ended. Abort) (expect sign.Semicolon ts))
 abort_sound ts =
     let E = behind (t.Sign sign.Abort ∷ []) IsStatement in
     one_sound E (alone (t.Sign sign.Semicolon)) tt ts (expect sign.Semicolon ts) _ (one_sign sign.Semicolon ts) (λ rest u. done_sound (behind (t.Sign sign.Semicolon ∷ []) E) Abort rest abort)
 
 pub statement_sound : (ts : List Token) → Sound IsStatement ts (statement_at ts)
-unfolding statement_at lacks_at put_at insert_at delete_at keep_at reply_at
+unfolding statement_at
 statement_sound (t.Sign sign.Let ∷ ts) = token_sound IsStatement (t.Sign sign.Let) ts _ (let_sound ts)
 statement_sound (t.Sign sign.Lacks ∷ ts) =
     of_last IsKeyOf [] (t.Sign sign.Lacks) (λ k. Lacks k.0 k.1) (λ ks k d. lacks k.0 ks k.1 d) ts (last_key_at ts) (last_key_sound ts)

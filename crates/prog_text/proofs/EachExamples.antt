@@ -15,7 +15,7 @@ use Rattle.prog_text.specs.Grammar.{IsStatements}
 use Rattle.prog_text.specs.Grammar as g
 use Rattle.prog_text.specs.Lexing.{kinds, tokens_from, piece_at, word_at, number_at, sign_at}
 use Rattle.prog_text.specs.Limits.{too_deep}
-use Rattle.prog_text.specs.Reading.{many_from, separated_at, factor_at, product_from, product_at, sum_from, sum_at, expr_within, expr_at, key_from, key_at, high_at, range_from, range_at, last_expr_at, assigned_at, put_at, reply_at, statement_at, block_at, listing_at, behind_turns, each_at, more_at, body_within, body_at, table_at, arity_at, params_at, program_at, set_at}
+use Rattle.prog_text.specs.Reading.{many_from, separated_at, factor_at, product_from, product_at, sum_from, sum_at, expr_within, expr_at, key_from, key_at, high_at, range_from, range_at, last_expr_at, assigned_at, statement_at, block_at, listing_at, behind_turns, each_at, more_at, body_within, body_at, table_at, arity_at, params_at, program_at, set_at}
 use Rattle.prog_text.proofs.Examples.{cut_of, has_tokens, lone}
 use Rattle.prog_text.proofs.Refusals.{set_found, set_misfit, set_unfinished}
 
@@ -64,7 +64,7 @@ abbrev text : List ℕ
 text = codes "table t 1; table e 2; program P(a) { each k,v in t[a..(a+1)*2]{put t[k]=v;each q , w in e[ k , least .. greatest ]{}}reply a; }"
 
 each_is_read : Accepts text draft
-unfolding tokens_from piece_at word_at number_at sign_at set_at many_from separated_at table_at arity_at program_at params_at block_at body_at body_within each_at listing_at behind_turns more_at statement_at put_at reply_at assigned_at last_expr_at key_at key_from range_at range_from high_at expr_at expr_within sum_at sum_from product_at product_from factor_at
+unfolding tokens_from piece_at word_at number_at sign_at set_at many_from separated_at table_at arity_at program_at params_at block_at body_at body_within each_at listing_at behind_turns more_at statement_at assigned_at last_expr_at key_at key_from range_at range_from high_at expr_at expr_within sum_at sum_from product_at product_from factor_at
 each_is_read = record {
   placed = cut_of text;
   shallow = record { tokens = has_tokens text (cut_of text) (omega arith) refl; shallow = refl };

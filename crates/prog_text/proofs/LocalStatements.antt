@@ -4,7 +4,7 @@ use Rattle.prog_tree.specs.Syntax.{Name, Bind, Get, Need, Count, Sum, Lacks, Put
 use Rattle.prog_text.specs.declared.lexing.token.Token.{Token}
 use Rattle.prog_text.specs.declared.lexing.token.Sign.TheVariants as sign
 use Rattle.prog_text.specs.declared.lexing.token.Token.TheVariants as t
-use Rattle.prog_text.specs.Reading.{Reading, ◌>>=◌, after_sign, behind_sign, expect, expr_within, expr_at, last_expr_at, last_key_at, last_range_at, assigned_at, bind_at, get_at, need_at, count_at, summed_at, bound_at, let_at, lacks_at, put_at, insert_at, delete_at, keep_at, reply_at, abort_at, statement_at, block_at, second_at, behind_second, behind_first, branch_at, listing_at, behind_turns, each_at, more_at, body_within, body_at}
+use Rattle.prog_text.specs.Reading.{Reading, ◌>>=◌, after_sign, behind_sign, expect, expr_within, expr_at, last_expr_at, last_key_at, last_range_at, assigned_at, bind_at, get_at, bound_at, let_at, statement_at, block_at, second_at, behind_second, behind_first, branch_at, listing_at, behind_turns, each_at, more_at, body_within, body_at}
 use Rattle.prog_text.proofs.Alike.{Local, LocalAt, then_local, done_local, fault_local, matched, left_to, unfit, by_first, behind_sign_local, turns_local}
 use Rattle.prog_text.proofs.Enough.{body_further}
 use Rattle.prog_text.proofs.LocalTokens.{sign_local, name_local}
@@ -51,7 +51,7 @@ get_local x =
     (λ e. done_local (Get x k.0 k.1 e))))
 
 bound_first : (x : Name) (u : Token) → LocalAt u (λ ts. bound_at x (u ∷ ts))
-unfolding bound_at need_at count_at summed_at
+unfolding bound_at
 bound_first x (t.Sign sign.Get) = matched (get_local x)
 bound_first x (t.Sign sign.Need) = matched (then_local _ last_key_local (λ k. done_local (Need x k.0 k.1)))
 bound_first x (t.Sign sign.Count) = matched (then_local _ last_range_local (λ r. done_local (Count x r.0 r.1)))
@@ -67,7 +67,7 @@ unfolding let_at
 let_local = then_local _ name_local (λ x. then_local _ (sign_local sign.Equals) (λ o. bound_local x))
 
 statement_first : (u : Token) → LocalAt u (λ ts. statement_at (u ∷ ts))
-unfolding statement_at lacks_at put_at insert_at delete_at keep_at reply_at abort_at
+unfolding statement_at
 statement_first (t.Sign sign.Let) = matched let_local
 statement_first (t.Sign sign.Lacks) = matched (then_local _ last_key_local (λ k. done_local (Lacks k.0 k.1)))
 statement_first (t.Sign sign.Put) = matched (then_local _ assigned_local (λ x. done_local (Put x.0.0 x.0.1 x.1)))

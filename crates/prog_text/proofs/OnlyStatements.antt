@@ -6,7 +6,7 @@ use Rattle.prog_text.specs.declared.lexing.token.Sign.TheVariants as sign
 use Rattle.prog_text.specs.declared.lexing.token.Token.TheVariants as t
 use Rattle.prog_text.specs.Grammar.{IsExpr, IsKey, IsRange, IsStatement, bind, get, need, count, sum, lacks, put, insert, delete, keep, reply, abort, IsStatements, nothing, IsBlock, block, IsElse, missing, present}
 use Rattle.prog_text.specs.Grammar as g
-use Rattle.prog_text.specs.Reading.{◌>>=◌, after_sign, expect, expr_at, test_at, key_at, range_at, last_expr_at, last_key_at, last_range_at, assigned_at, bind_at, get_at, need_at, count_at, summed_at, bound_at, let_at, lacks_at, put_at, insert_at, delete_at, keep_at, reply_at, abort_at, statement_at, block_at, second_at, behind_second, behind_first, branch_at, listing_at, behind_turns, each_at, more_at, body_at}
+use Rattle.prog_text.specs.Reading.{◌>>=◌, after_sign, expect, expr_at, test_at, key_at, range_at, last_expr_at, last_key_at, last_range_at, assigned_at, bind_at, get_at, bound_at, let_at, statement_at, block_at, second_at, behind_second, behind_first, branch_at, listing_at, behind_turns, each_at, more_at, body_at}
 use Rattle.prog_text.proofs.Only.{Reads, then_reads, mapped_reads, regrouped}
 use Rattle.prog_text.proofs.OnlyExprs.{EndsConjunction, no_operator, expr_begins, expr_reads, test_only, key_reads, range_only}
 use Rattle.prog_text.proofs.DerivedStatements.{begins_statement}
@@ -54,7 +54,7 @@ bind_only x ts e d rest =
     (mapped_reads e rest (last_expr_at behind) (Bind x) (last_expr_only ts e d rest))
 
 statement_only : (ts : List Token) (s : StatementTree) → IsStatement ts s → (rest : List Token) → Reads (s, rest) (statement_at (ts ++ rest))
-unfolding statement_at let_at bound_at bind_at get_at need_at count_at summed_at lacks_at put_at insert_at delete_at keep_at reply_at abort_at
+unfolding statement_at let_at bound_at bind_at get_at
 statement_only _ _ (bind x ts e d) rest = bind_only x ts e d rest
 statement_only _ _ (get x table ks ts k e dk d) rest =
     let value : List Token = ts ++ t.Sign sign.Semicolon ∷ [] in

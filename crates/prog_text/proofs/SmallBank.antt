@@ -9,7 +9,7 @@ use Rattle.prog_tree.specs.declared.table.Arity.TheVariants as arity
 use Rattle.prog_text.specs.Answer.{HasTokens, Accepts}
 use Rattle.prog_text.specs.Canonical.{canonical}
 use Rattle.prog_text.specs.Lexing.{Placed, kinds, tokens_of, tokens_from, piece_at, word_at, number_at, sign_at}
-use Rattle.prog_text.specs.Reading.{many_from, separated_at, factor_at, product_from, product_at, sum_from, sum_at, expr_within, expr_at, compared_at, comparison_at, key_from, key_at, last_expr_at, assigned_at, get_at, bound_at, let_at, put_at, statement_at, block_at, second_at, behind_second, behind_first, branch_at, more_at, body_within, body_at, table_at, arity_at, params_at, program_at, reply_at, abort_at, set_at}
+use Rattle.prog_text.specs.Reading.{many_from, separated_at, factor_at, product_from, product_at, sum_from, sum_at, expr_within, expr_at, compared_at, comparison_at, key_from, key_at, last_expr_at, assigned_at, get_at, bound_at, let_at, statement_at, block_at, second_at, behind_second, behind_first, branch_at, more_at, body_within, body_at, table_at, arity_at, params_at, program_at, set_at}
 use Rattle.prog_text.proofs.Converse.{tokens_exactly}
 use Rattle.prog_text.proofs.Refusals.{set_found}
 
@@ -124,7 +124,7 @@ unfolding tokens_from piece_at word_at number_at sign_at
 small_bank_tokens = record { short = omega arith; cut = (tokens_exactly small_bank_text small_bank_placed).0 refl }
 
 small_bank_is_read : Accepts small_bank_text small_bank
-unfolding tokens_from piece_at word_at number_at sign_at set_at many_from separated_at table_at arity_at program_at params_at block_at body_at body_within branch_at behind_first behind_second second_at more_at statement_at let_at bound_at get_at put_at assigned_at last_expr_at key_at key_from comparison_at compared_at expr_at expr_within sum_at sum_from product_at product_from factor_at reply_at abort_at
+unfolding tokens_from piece_at word_at number_at sign_at set_at many_from separated_at table_at arity_at program_at params_at block_at body_at body_within branch_at behind_first behind_second second_at more_at statement_at let_at bound_at get_at assigned_at last_expr_at key_at key_from comparison_at compared_at expr_at expr_within sum_at sum_from product_at product_from factor_at
 small_bank_is_read = record {
   placed = small_bank_placed;
   shallow = record { tokens = small_bank_tokens; shallow = refl };

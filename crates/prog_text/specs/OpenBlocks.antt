@@ -9,13 +9,11 @@ use Rattle.prog_text.specs.declared.reading.blocks.Open.TheVariants.{First, Seco
 use Rattle.prog_text.specs.declared.reading.cursor.Cursor.{Cursor}
 use Rattle.prog_text.specs.declared.reading.read_error.ReadError.{ReadError}
 use Rattle.prog_text.specs.declared.lexing.token.Token.{Token}
-use Rattle.prog_text.specs.Reading.{Reading, ◌>>=◌, Fails, behind_first, behind_second, branch_at, behind_turns, each_at, body_at}
+use Rattle.prog_text.specs.Reading.{Reading, ◌>>=◌, made_into, Fails, behind_first, behind_second, branch_at, behind_turns, each_at, body_at}
 
 -- statements that were read, in front of what is read of their block
 unfoldable pub in_front : List Stmt → Reading BlockTree → Reading BlockTree
-in_front done read = do
-  rest ← read
-  Ok (with_stmts done rest.0, rest.1)
+in_front done read = made_into (with_stmts done) read
 
 -- What reading the innermost block says of the outermost one. The open blocks stand from the inside out.
 unfoldable pub outward : List Open → Reading BlockTree → Reading BlockTree

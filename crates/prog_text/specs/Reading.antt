@@ -30,6 +30,12 @@ abbrev pub ◌>>=◌ : {A B : Type 0} → Result A Stop → (A → Result B Stop
 (Ok x) >>= f = f x
 (Err e) >>= f = Err e
 
+-- what is read, made into something else
+abbrev pub made_into : {A B : Type 0} → (A → B) → Reading A → Reading B
+made_into f read = do
+  x ← read
+  Ok (f x.0, x.1)
+
 -- reading stops there too; want of memory says nothing of it
 abbrev pub Fails : {Y : Type 0} → ReadError → Result Y Stop → Type 0
 Fails errors.Memory read = Unit {0}
@@ -275,11 +281,9 @@ assigned_at ts = do
 
 -- ---- statements
 
--- behind `let NAME =`
+-- behind `let NAME =`: an expression
 unfoldable pub bind_at : Name → List Token → Reading StatementTree
-bind_at name ts = do
-  value ← last_expr_at ts
-  Ok (Bind name value.0, value.1)
+bind_at name ts = made_into (Bind name) (last_expr_at ts)
 
 -- behind `let NAME = get`
 unfoldable pub get_at : Name → List Token → Reading StatementTree
@@ -289,30 +293,12 @@ get_at name ts = do
   otherwise ← last_expr_at other.1
   Ok (Get name key.0.0 key.0.1 otherwise.0, otherwise.1)
 
--- behind `let NAME = need`
-unfoldable pub need_at : Name → List Token → Reading StatementTree
-need_at name ts = do
-  key ← last_key_at ts
-  Ok (Need name key.0.0 key.0.1, key.1)
-
--- behind `let NAME = count`
-unfoldable pub count_at : Name → List Token → Reading StatementTree
-count_at name ts = do
-  range ← last_range_at ts
-  Ok (Count name range.0.0 range.0.1, range.1)
-
--- behind `let NAME = sum`
-unfoldable pub summed_at : Name → List Token → Reading StatementTree
-summed_at name ts = do
-  range ← last_range_at ts
-  Ok (Sum name range.0.0 range.0.1, range.1)
-
--- behind `let NAME =`: one of these, by its first token
+-- behind `let NAME =`: what is bound, by its first token
 unfoldable pub bound_at : Name → List Token → Reading StatementTree
 bound_at name (t.Sign sign.Get ∷ ts) = get_at name ts
-bound_at name (t.Sign sign.Need ∷ ts) = need_at name ts
-bound_at name (t.Sign sign.Count ∷ ts) = count_at name ts
-bound_at name (t.Sign sign.Sum ∷ ts) = summed_at name ts
+bound_at name (t.Sign sign.Need ∷ ts) = made_into (λ key. Need name key.0 key.1) (last_key_at ts)
+bound_at name (t.Sign sign.Count ∷ ts) = made_into (λ range. Count name range.0 range.1) (last_range_at ts)
+bound_at name (t.Sign sign.Sum ∷ ts) = made_into (λ range. Sum name range.0 range.1) (last_range_at ts)
 bound_at name ts = bind_at name ts
 
 -- behind the word `let`
@@ -322,65 +308,21 @@ let_at ts = do
   equals ← expect sign.Equals name.1
   bound_at name.0 equals.1
 
--- behind the word `lacks`
-unfoldable pub lacks_at : List Token → Reading StatementTree
-lacks_at ts = do
-  key ← last_key_at ts
-  Ok (Lacks key.0.0 key.0.1, key.1)
-
--- behind the word `put`
-unfoldable pub put_at : List Token → Reading StatementTree
-put_at ts = do
-  assigned ← assigned_at ts
-  Ok (Put assigned.0.0.0 assigned.0.0.1 assigned.0.1, assigned.1)
-
--- behind the word `insert`
-unfoldable pub insert_at : List Token → Reading StatementTree
-insert_at ts = do
-  assigned ← assigned_at ts
-  Ok (Insert assigned.0.0.0 assigned.0.0.1 assigned.0.1, assigned.1)
-
--- behind the word `delete`
-unfoldable pub delete_at : List Token → Reading StatementTree
-delete_at ts = do
-  key ← last_key_at ts
-  Ok (Delete key.0.0 key.0.1, key.1)
-
--- behind the word `keep`
-unfoldable pub keep_at : List Token → Reading StatementTree
-keep_at ts = do
-  key ← last_key_at ts
-  Ok (Keep key.0.0 key.0.1, key.1)
-
--- behind the word `reply`
-unfoldable pub reply_at : List Token → Reading StatementTree
-reply_at ts = do
-  value ← last_expr_at ts
-  Ok (Reply value.0, value.1)
-
--- behind the word `abort`
-unfoldable pub abort_at : List Token → Reading StatementTree
-abort_at ts = do
-  ended ← expect sign.Semicolon ts
-  Ok (Abort, ended.1)
-
 -- a statement without blocks
 unfoldable pub statement_at : List Token → Reading StatementTree
 statement_at (t.Sign sign.Let ∷ ts) = let_at ts
-statement_at (t.Sign sign.Lacks ∷ ts) = lacks_at ts
-statement_at (t.Sign sign.Put ∷ ts) = put_at ts
-statement_at (t.Sign sign.Insert ∷ ts) = insert_at ts
-statement_at (t.Sign sign.Delete ∷ ts) = delete_at ts
-statement_at (t.Sign sign.Keep ∷ ts) = keep_at ts
-statement_at (t.Sign sign.Reply ∷ ts) = reply_at ts
-statement_at (t.Sign sign.Abort ∷ ts) = abort_at ts
+statement_at (t.Sign sign.Lacks ∷ ts) = made_into (λ key. Lacks key.0 key.1) (last_key_at ts)
+statement_at (t.Sign sign.Put ∷ ts) = made_into (λ row. Put row.0.0 row.0.1 row.1) (assigned_at ts)
+statement_at (t.Sign sign.Insert ∷ ts) = made_into (λ row. Insert row.0.0 row.0.1 row.1) (assigned_at ts)
+statement_at (t.Sign sign.Delete ∷ ts) = made_into (λ key. Delete key.0 key.1) (last_key_at ts)
+statement_at (t.Sign sign.Keep ∷ ts) = made_into (λ key. Keep key.0 key.1) (last_key_at ts)
+statement_at (t.Sign sign.Reply ∷ ts) = made_into Reply (last_expr_at ts)
+statement_at (t.Sign sign.Abort ∷ ts) = made_into (λ ended. Abort) (expect sign.Semicolon ts)
 statement_at ts = unexpected ts
 
 -- a statement without blocks, read as one of a block
 abbrev pub as_plain : Reading StatementTree → Reading StmtTree
-as_plain read = do
-  statement ← read
-  Ok (Plain statement.0, statement.1)
+as_plain read = made_into Plain read
 
 -- ---- blocks; `body` reads what is left of a block, and its closing sign
 
@@ -397,9 +339,7 @@ second_at body ts = behind_sign (after_sign sign.Else ts) (block_at body) (Ok (B
 -- behind the second block of a branch
 unfoldable pub behind_second : (body : List Token → Reading BlockTree) → TestTree → (first second : BlockTree)
     → List Token → Reading BlockTree
-behind_second body test first second ts = do
-  rest ← body ts
-  Ok (Branch test first second rest.0, rest.1)
+behind_second body test first second ts = made_into (Branch test first second) (body ts)
 
 -- behind the first block of a branch
 unfoldable pub behind_first : (body : List Token → Reading BlockTree) → TestTree → (first : BlockTree)
@@ -428,9 +368,7 @@ listing_at ts = do
 -- behind the block of an `each`
 unfoldable pub behind_turns : (body : List Token → Reading BlockTree) → ListingTree → (inside : BlockTree)
     → List Token → Reading BlockTree
-behind_turns body listing inside ts = do
-  rest ← body ts
-  Ok (Each listing inside rest.0, rest.1)
+behind_turns body listing inside ts = made_into (Each listing inside) (body ts)
 
 -- behind the word `each`: an `each`, and the rest of its block
 unfoldable pub each_at : (body : List Token → Reading BlockTree) → List Token → Reading BlockTree
@@ -443,8 +381,7 @@ each_at body ts = do
 unfoldable pub more_at : (body : List Token → Reading BlockTree) → List Token → Reading BlockTree
 more_at body ts = do
   s ← statement_at ts
-  rest ← body s.1
-  Ok (Then s.0 rest.0, rest.1)
+  made_into (Then s.0) (body s.1)
 
 -- what is left of a block, and its closing sign; n is at least the number of tokens
 unfoldable pub body_within : ℕ → List Token → Reading BlockTree

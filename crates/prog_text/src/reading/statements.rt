@@ -77,7 +77,7 @@ fn get(cursor: &mut Cursor<'_>, name: Name) -> Result<Stmt, ReadError>
 }
 
 // Behind `let NAME =`, by the first token.
-#[tactic(auto, unfolding(crate::specs::Reading::bound_at, crate::specs::Reading::bind_at, crate::specs::Reading::need_at, crate::specs::Reading::count_at, crate::specs::Reading::summed_at))]
+#[tactic(auto, unfolding(crate::specs::Reading::bound_at, crate::specs::Reading::bind_at))]
 fn bound_value(cursor: &mut Cursor<'_>, name: Name) -> Result<Stmt, ReadError>
     ensures { ReadsPlain (bound_at name) result cursor.old cursor.new }
 {
@@ -111,7 +111,7 @@ fn let_binding(cursor: &mut Cursor<'_>) -> Result<Stmt, ReadError>
 }
 
 /// A statement without blocks.
-#[tactic(auto, unfolding(crate::specs::Reading::statement_at, crate::specs::Reading::lacks_at, crate::specs::Reading::put_at, crate::specs::Reading::insert_at, crate::specs::Reading::delete_at, crate::specs::Reading::keep_at, crate::specs::Reading::reply_at, crate::specs::Reading::abort_at))]
+#[tactic(auto, unfolding(crate::specs::Reading::statement_at))]
 pub fn statement(cursor: &mut Cursor<'_>) -> Result<Stmt, ReadError>
     ensures { ReadsPlain statement_at result cursor.old cursor.new }
 {
