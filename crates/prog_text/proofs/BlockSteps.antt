@@ -14,14 +14,14 @@ use Rattle.prog_text.specs.declared.reading.blocks.Open.TheVariants.{First, Seco
 use Rattle.prog_text.specs.declared.reading.read_error.ReadError.{ReadError}
 use Rattle.prog_text.specs.declared.reading.read_error.ReadError.TheVariants as errors
 use Rattle.prog_text.specs.declared.lexing.token.Token.{Token}
-use Rattle.prog_text.specs.Reading.{Stop, Unexpected, Reading, ◌>>=◌, Fails, after_sign, behind_sign, expect, test_at, statement_at, block_at, second_at, behind_second, behind_first, branch_at, listing_at, behind_turns, each_at, more_at, body_at, as_plain, unexpected}
-use Rattle.prog_text.specs.OpenBlocks.{in_front, outward, unread, unread_behind_end, unread_behind_if, unread_behind_each}
+use Rattle.prog_text.specs.Reading.{Stop, Unexpected, Reading, ◌>>=◌, Fails, after_sign, behind_sign, expect, test_at, statement_at, block_at, headed_at, second_at, behind_second, behind_first, branch_at, listing_at, behind_turns, each_at, more_at, body_at, as_plain, unexpected}
+use Rattle.prog_text.specs.OpenBlocks.{in_front, outward, unread_by, unread, unread_behind_end, unread_behind_if, unread_behind_each}
 use Rattle.prog_text.proofs.Enough.{body_is}
 use Rattle.prog_text.specs.declared.lexing.token.Sign.TheVariants as sign
 
 -- what is still to be read in front of a statement without blocks
 unfoldable pub unread_from_statement : List Open → List Stmt → List Token → Reading BlockTree
-unread_from_statement stack done ts = outward (reverse stack) (in_front done (more_at body_at ts))
+unread_from_statement stack done ts = unread_by (more_at body_at) stack done ts
 
 in_front-nil : (read : Reading BlockTree) → in_front [] read ≡ read
 unfolding in_front
@@ -157,30 +157,33 @@ second_ends stack test first done before s ts is =
     ∙ ap (λ (r : Reading BlockTree). outward (reverse stack) (in_front before.items r)) (sym (with_rest (test_tree test) (stmts_tree first.items) (stmts_tree done) ts))
     ∙ sym (innermost stack (Second test first before) (Ok (stmts_tree done, ts)))
 
+-- ---- a head and its block
+
+module _ {H : Type 0} (head : List Token → Reading H) (behind : H → BlockTree → List Token → Reading BlockTree) where
+  with_block : (x : H) (ts us vs : List Token) → head ts ≡ Ok (x, us) → expect sign.OpenBlock us ≡ Ok (tt, vs) → headed_at head behind body_at ts ≡ (body_at vs >>= λ inside. behind x inside.0 inside.1)
+  unfolding block_at
+  with_block x ts us vs e f = rw (e, f) refl
+
+  no_block : (k : ReadError) (x : H) (ts us : List Token) → head ts ≡ Ok (x, us) → Fails k (expect sign.OpenBlock us) → Fails k (headed_at head behind body_at ts)
+  unfolding block_at
+  no_block k x ts us e h = rw e (then_fails k _ _ (then_fails k (expect sign.OpenBlock us) _ h))
+
 -- ---- a branch
 
 pub test_fails : (k : ReadError) (stack : List Open) (done : List Stmt) (ts : List Token) → Fails k (test_at ts) → Fails k (unread_behind_if stack done ts)
 unfolding unread_behind_if branch_at
 test_fails k stack done ts h = reading_fails k (reverse stack) done _ (then_fails k (test_at ts) _ h)
 
-with_first : (x : TestTree) (ts us vs : List Token) → test_at ts ≡ Ok (x, us) → expect sign.OpenBlock us ≡ Ok (tt, vs) → branch_at body_at ts ≡ (body_at vs >>= λ first. behind_first body_at x first.0 first.1)
-unfolding branch_at block_at
-with_first x ts us vs e f = rw (e, f) refl
-
-no_first : (k : ReadError) (x : TestTree) (ts us : List Token) → test_at ts ≡ Ok (x, us) → Fails k (expect sign.OpenBlock us) → Fails k (branch_at body_at ts)
-unfolding branch_at block_at
-no_first k x ts us e h = rw e (then_fails k _ _ (then_fails k (expect sign.OpenBlock us) _ h))
-
 pub first_fails : (k : ReadError) (stack : List Open) (done : List Stmt) (ts us : List Token) (x : TestTree) → test_at ts ≡ Ok (x, us) → Fails k (expect sign.OpenBlock us) → Fails k (unread_behind_if stack done ts)
-unfolding unread_behind_if
-first_fails k stack done ts us x e h = reading_fails k (reverse stack) done (branch_at body_at ts) (no_first k x ts us e h)
+unfolding unread_behind_if branch_at
+first_fails k stack done ts us x e h = reading_fails k (reverse stack) done (branch_at body_at ts) (no_block test_at (behind_first body_at) k x ts us e h)
 
 pub first_opens : (stack : List Open) (test : Test) (before : Vec Stmt Global) (ts us vs : List Token) → test_at ts ≡ Ok (test_tree test, us) → expect sign.OpenBlock us ≡ Ok (tt, vs)
     → unread (stack ++ First test before ∷ []) [] vs ≡ unread_behind_if stack before.items ts
-unfolding unread unread_behind_if outward
+unfolding unread unread_behind_if outward branch_at
 first_opens stack test before ts us vs e f =
     innermost stack (First test before) (in_front [] (body_at vs)) ∙ ap (outward (First test before ∷ reverse stack)) (in_front-nil (body_at vs))
-    ∙ ap (λ (r : Reading BlockTree). outward (reverse stack) (in_front before.items r)) (sym (with_first (test_tree test) ts us vs e f))
+    ∙ ap (λ (r : Reading BlockTree). outward (reverse stack) (in_front before.items r)) (sym (with_block test_at (behind_first body_at) (test_tree test) ts us vs e f))
 
 -- ---- an `each`
 
@@ -188,24 +191,16 @@ pub listing_fails : (k : ReadError) (stack : List Open) (done : List Stmt) (ts :
 unfolding unread_behind_each each_at
 listing_fails k stack done ts h = reading_fails k (reverse stack) done _ (then_fails k (listing_at ts) _ h)
 
-with_inside : (l : ListingTree) (ts us vs : List Token) → listing_at ts ≡ Ok (l, us) → expect sign.OpenBlock us ≡ Ok (tt, vs) → each_at body_at ts ≡ (body_at vs >>= λ inside. behind_turns body_at l inside.0 inside.1)
-unfolding each_at block_at
-with_inside l ts us vs e f = rw (e, f) refl
-
-no_inside : (k : ReadError) (l : ListingTree) (ts us : List Token) → listing_at ts ≡ Ok (l, us) → Fails k (expect sign.OpenBlock us) → Fails k (each_at body_at ts)
-unfolding each_at block_at
-no_inside k l ts us e h = rw e (then_fails k _ _ (then_fails k (expect sign.OpenBlock us) _ h))
-
 pub turns_fail : (k : ReadError) (stack : List Open) (done : List Stmt) (ts us : List Token) (l : ListingTree) → listing_at ts ≡ Ok (l, us) → Fails k (expect sign.OpenBlock us) → Fails k (unread_behind_each stack done ts)
-unfolding unread_behind_each
-turns_fail k stack done ts us l e h = reading_fails k (reverse stack) done (each_at body_at ts) (no_inside k l ts us e h)
+unfolding unread_behind_each each_at
+turns_fail k stack done ts us l e h = reading_fails k (reverse stack) done (each_at body_at ts) (no_block listing_at (behind_turns body_at) k l ts us e h)
 
 pub turns_open : (stack : List Open) (listing : Listing) (before : Vec Stmt Global) (ts us vs : List Token) → listing_at ts ≡ Ok (listing_tree listing, us) → expect sign.OpenBlock us ≡ Ok (tt, vs)
     → unread (stack ++ Turns listing before ∷ []) [] vs ≡ unread_behind_each stack before.items ts
-unfolding unread unread_behind_each outward
+unfolding unread unread_behind_each outward each_at
 turns_open stack listing before ts us vs e f =
     innermost stack (Turns listing before) (in_front [] (body_at vs)) ∙ ap (outward (Turns listing before ∷ reverse stack)) (in_front-nil (body_at vs))
-    ∙ ap (λ (r : Reading BlockTree). outward (reverse stack) (in_front before.items r)) (sym (with_inside (listing_tree listing) ts us vs e f))
+    ∙ ap (λ (r : Reading BlockTree). outward (reverse stack) (in_front before.items r)) (sym (with_block listing_at (behind_turns body_at) (listing_tree listing) ts us vs e f))
 
 with_others : (l : ListingTree) (inside : BlockTree) (ts : List Token) → behind_turns body_at l inside ts ≡ (body_at ts >>= λ rest. Ok (Each l inside rest.0, rest.1))
 unfolding behind_turns

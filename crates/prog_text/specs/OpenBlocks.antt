@@ -30,9 +30,13 @@ outward (Turns listing before ∷ others) read = outward others (in_front before
 
 -- Below, a list of open blocks stands from the outside in, and the statements are those of the innermost so far.
 
+-- what is still to be read, where `read` goes on in the innermost block
+abbrev pub unread_by : (read : List Token → Reading BlockTree) → List Open → List Stmt → List Token → Reading BlockTree
+unread_by read stack done ts = outward (reverse stack) (in_front done (read ts))
+
 -- what is still to be read
 unfoldable pub unread : List Open → List Stmt → List Token → Reading BlockTree
-unread stack done ts = outward (reverse stack) (in_front done (body_at ts))
+unread stack done ts = unread_by body_at stack done ts
 
 -- the same behind the closing sign of the innermost block
 unfoldable pub unread_behind_end : List Open → List Stmt → List Token → Reading BlockTree
@@ -40,11 +44,11 @@ unread_behind_end stack done ts = outward (reverse stack) (Ok (stmts_tree done, 
 
 -- the same behind the word `if`
 unfoldable pub unread_behind_if : List Open → List Stmt → List Token → Reading BlockTree
-unread_behind_if stack done ts = outward (reverse stack) (in_front done (branch_at body_at ts))
+unread_behind_if stack done ts = unread_by (branch_at body_at) stack done ts
 
 -- the same behind the word `each`
 unfoldable pub unread_behind_each : List Open → List Stmt → List Token → Reading BlockTree
-unread_behind_each stack done ts = outward (reverse stack) (in_front done (each_at body_at ts))
+unread_behind_each stack done ts = unread_by (each_at body_at) stack done ts
 
 -- what is still to be read of a block
 abbrev pub unread_of : Body → Cursor → Reading BlockTree

@@ -332,6 +332,15 @@ block_at body ts = do
   begun ← expect sign.OpenBlock ts
   body begun.1
 
+-- a head, the block that it begins, and what is read behind both
+abbrev pub headed_at : {H : Type 0} → (head : List Token → Reading H)
+    → (behind : H → BlockTree → List Token → Reading BlockTree) → (body : List Token → Reading BlockTree)
+    → List Token → Reading BlockTree
+headed_at head behind body ts = do
+  begun ← head ts
+  inside ← block_at body begun.1
+  behind begun.0 inside.0 inside.1
+
 -- the second block of a branch, or nothing where there is none
 unfoldable pub second_at : (body : List Token → Reading BlockTree) → List Token → Reading BlockTree
 second_at body ts = behind_sign (after_sign sign.Else ts) (block_at body) (Ok (BlockEnd, ts))
@@ -350,10 +359,7 @@ behind_first body test first ts = do
 
 -- behind the word `if`: a branch, and the rest of its block
 unfoldable pub branch_at : (body : List Token → Reading BlockTree) → List Token → Reading BlockTree
-branch_at body ts = do
-  test ← test_at ts
-  first ← block_at body test.1
-  behind_first body test.0 first.0 first.1
+branch_at body ts = headed_at test_at (behind_first body) body ts
 
 -- behind the word `each`: two names and the range whose rows are listed
 unfoldable pub listing_at : List Token → Reading ListingTree
@@ -372,10 +378,7 @@ behind_turns body listing inside ts = made_into (Each listing inside) (body ts)
 
 -- behind the word `each`: an `each`, and the rest of its block
 unfoldable pub each_at : (body : List Token → Reading BlockTree) → List Token → Reading BlockTree
-each_at body ts = do
-  listing ← listing_at ts
-  inside ← block_at body listing.1
-  behind_turns body listing.0 inside.0 inside.1
+each_at body ts = headed_at listing_at (behind_turns body) body ts
 
 -- a statement without blocks, and the rest of its block
 unfoldable pub more_at : (body : List Token → Reading BlockTree) → List Token → Reading BlockTree
