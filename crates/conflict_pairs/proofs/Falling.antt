@@ -1,7 +1,6 @@
 -- Chains that fall, of a fact alone and among more facts.
-use Rattle.std.proofs.Common.{◌≡◌, ℕ, ◌<◌, ◌≤◌, ◌+◌, ◌⊎◌, get_or, arith, List, [], ◌∷◌, ◌++◌, length, map, inl, inr, refl, sym, subst, ap, Contains}
+use Rattle.std.proofs.Common.{◌≡◌, ℕ, ◌+◌, ◌⊎◌, get_or, List, [], ◌∷◌, ◌++◌, length, map, inl, inr, refl, sym, subst, ap, Contains}
 use Rattle.std.specs.Prelude.{Option, Some, None, slice_get, All, IfSome, IfNone}
-use Rattle.std.proofs.lemmas.Bool.{cases_lt}
 use Rattle.std.proofs.lemmas.Option.{get_or_from_slice_get}
 use Rattle.std.proofs.lemmas.List.Elements.{All-append}
 use Rattle.prog_tree.proofs.Elements.{IsMember, member_from_contains, contains_from_member, member_left, member_right}
@@ -117,13 +116,6 @@ found_for mine theirs facts starts ends found same lowers uppers all h =
 pub IfSome-either : {A : Type 0} (P : A → Type 0) (result one other : Option A) → (result ≡ one) ⊎ (result ≡ other) → IfSome one P → IfSome other P → IfSome result P
 IfSome-either P result one other (inl e) h k = subst (λ (o : Option _). IfSome o P) (sym e) h
 IfSome-either P result one other (inr e) h k = subst (λ (o : Option _). IfSome o P) (sym e) k
-
-pub below_more : (P : ℕ → Type 0) (n : ℕ) → ((k : ℕ) → k < n → P k) → P n → (k : ℕ) → k < n + 1 → P k
-below_more P n below here k l = go (cases_lt k n)
-  where
-    go : (k < n) ⊎ (n ≤ k) → P k
-    go (inl before) = below k before
-    go (inr past) = let same : n ≡ k = omega arith in subst P same here
 
 pub own_end : (facts : List Fact) (from : Node) (ends : List Node) (n : ℕ) (d : Node) (found : Option (List Node)) → ((h : FallsBetween facts from (get_or ends n d)) → FoundWithin found (length h.chain))
     → (to : Node) → slice_get ends n ≡ Some to → (h : FallsBetween facts from to) → FoundWithin found (length h.chain)

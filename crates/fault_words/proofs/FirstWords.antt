@@ -1,6 +1,6 @@
 -- Which words spell a token that is looked for in a text.
 use Rattle.std.proofs.Common.{◌≡◌, ◌≢◌, ◌⊎◌, inl, inr, ℕ, Bool, true, false, not, List, [], ◌∷◌, None, bytes_eq, slice_index, find, refl, ap, sym, ◌∙◌}
-use Rattle.std.proofs.lemmas.Bool.{and_parts, cases_Bool, true≢false}
+use Rattle.std.proofs.lemmas.Bool.{and_parts, cases_Bool, true≢false, not-true}
 use Rattle.std.proofs.lemmas.Slice.Eq.{bytes_eq-Decides}
 use Rattle.std.specs.List.{list_all}
 use Rattle.text_places.specs.Landmarks.{is_program, is_sign_of, is_statement, is_table}
@@ -13,7 +13,6 @@ use Rattle.prog_text.specs.Cut.{Spells}
 use Rattle.prog_text.specs.Lexing.{is_digit}
 use Rattle.prog_text.specs.Spelling.{spelling, reserved_as, reserved_words}
 use Rattle.prog_text.specs.Words.{begun}
-use Rattle.prog_text.proofs.Spelled.{not_is}
 
 -- a test that the word passes and the other fails tells them apart
 apart : (test : List ℕ → Bool) (word other : List ℕ) → test word ≡ true → test other ≡ false → bytes_eq word other ≡ false
@@ -40,7 +39,7 @@ none_of : (word : List ℕ) (tokens : List Token) → list_all (λ u. not (begin
 none_of word [] all digits = refl
 none_of word (u ∷ tokens) all digits =
     let parts : (not (begins_digits (spelling u)) ≡ true) × (list_all (λ v. not (begins_digits (spelling v))) tokens ≡ true) = and_parts _ _ all in
-    rw (apart begins_digits word (spelling u) digits (not_is _ parts.0)) (none_of word tokens parts.1 digits)
+    rw (apart begins_digits word (spelling u) digits (not-true _ parts.0)) (none_of word tokens parts.1 digits)
 
 -- a word is looked for just where the token that it spells is
 pub word_first : (kind : Landmark) → kind ≢ Record → kind ≢ Job → (u : Token) (word : List ℕ) → Spells u word → is_sign_of kind word ≡ is_first kind u

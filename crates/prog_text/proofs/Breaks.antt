@@ -2,7 +2,7 @@
 use Rattle.std.proofs.Common.{◌≡◌, ◌∙◌, ℕ, ◌+◌, ◌/◌, ◌%◌, ◌<◌, ◌≤◌, ◌^◌, ◌==◌, nat_lt, nat_eq, not, List, [], ◌∷◌, ◌++◌, length, Bool, true, false, ◌&&◌, ◌||◌, Some, refl, sym, ap, subst, slice_index, bytes_eq, arith, true≢false}
 use Rattle.std.specs.Cmp.Derive.{both_true}
 use Rattle.std.specs.List.{list_all, starts_with}
-use Rattle.std.proofs.lemmas.Bool.{and_parts, lt-ltb}
+use Rattle.std.proofs.lemmas.Bool.{and_parts, lt-ltb, not-true}
 use Rattle.std.proofs.lemmas.Fmt.{decimal_by_steps}
 use Rattle.std.proofs.lemmas.Grind.{common_steps}
 use Rattle.std.proofs.lemmas.List.{length-append}
@@ -15,7 +15,7 @@ use Rattle.prog_text.specs.Lexing.{is_digit, is_word_byte}
 use Rattle.prog_text.specs.Spelling.{spelling, signs}
 use Rattle.prog_text.proofs.Converse.{is_begun}
 use Rattle.prog_text.proofs.Longest.{starts}
-use Rattle.prog_text.proofs.Spelled.{IsAmong, clash, not_is, among_passes, begins_sign, goes_on_sign}
+use Rattle.prog_text.proofs.Spelled.{IsAmong, clash, among_passes, begins_sign, goes_on_sign}
 
 -- a byte that goes on with no word, no number and no sign but a dot
 abbrev pub is_break : ℕ → Bool
@@ -93,8 +93,8 @@ broken_longest u lexed [] breaks v b more others is spells = absurd (omega (arit
 broken_longest u lexed (c ∷ rest) breaks v b more others is spells =
     let broken : is_break b ≡ true = subst (λ x. is_break x ≡ true) (ap (λ xs. slice_index xs 0) is) breaks in
     let parts : (not (is_word_byte b) ≡ true) × (not (b == 61) ≡ true) = and_parts _ _ broken in
-    let there : IsAmong signs (spelling u ++ b ∷ more) = goes_on_sign v (spelling u) b more spells (not_is (is_word_byte b) parts.0) in
-    no_dot u lexed (only_dots (spelling u) b more (is_begun u (spelling u) (own_spelling u lexed)) (not_is (b == 61) parts.1) (among_passes goes_on_so signs _ refl there))
+    let there : IsAmong signs (spelling u ++ b ∷ more) = goes_on_sign v (spelling u) b more spells (not-true (is_word_byte b) parts.0) in
+    no_dot u lexed (only_dots (spelling u) b more (is_begun u (spelling u) (own_spelling u lexed)) (not-true (b == 61) parts.1) (among_passes goes_on_so signs _ refl there))
 
 -- a token that a text can have is a piece before a break
 pub broken_piece : (u : Token) (rest : List ℕ) → IsLexed u → Breaks rest → IsPiece (Some u) (spelling u) rest
@@ -118,6 +118,6 @@ alone_piece u rest lexed alone =
     let word : List ℕ = spelling u ++ b ∷ more in
     let parts : (not (is_word_byte (slice_index (spelling u) 0)) ≡ true) × (list_all (λ v. not (goes_on_from (spelling u) (spelling v))) signs ≡ true) = and_parts _ _ alone in
     let first : slice_index word 0 ≡ slice_index (spelling u) 0 = first_byte (spelling u) (b ∷ more) (is_begun u (spelling u) (own_spelling u lexed)) in
-    let there : IsAmong signs word = begins_sign v word spells (ap is_word_byte first ∙ not_is _ parts.0) in
+    let there : IsAmong signs word = begins_sign v word spells (ap is_word_byte first ∙ not-true _ parts.0) in
     let longer : length (spelling u) < length word = omega (arith, length-append (spelling u) (b ∷ more)) in
-    clash (both_true (starts word (spelling u) (b ∷ more) refl) (lt-ltb _ _ longer)) (not_is _ (among_passes (λ w. not (goes_on_from (spelling u) w)) signs word parts.1 there)))
+    clash (both_true (starts word (spelling u) (b ∷ more) refl) (lt-ltb _ _ longer)) (not-true _ (among_passes (λ w. not (goes_on_from (spelling u) w)) signs word parts.1 there)))

@@ -1,7 +1,7 @@
 -- What bytes that spell a token are made of.
 use Rattle.std.proofs.Common.{◌≡◌, ◌∙◌, ◌⊎◌, inl, inr, ℕ, ◌&&◌, ◌||◌, not, List, [], ◌∷◌, ◌++◌, Bool, true, false, refl, sym, ap, subst, slice_index, bytes_eq, arith, true≢false}
 use Rattle.std.specs.List.{list_all}
-use Rattle.std.proofs.lemmas.Bool.{and_parts, or_cases}
+use Rattle.std.proofs.lemmas.Bool.{and_parts, or_cases, not-true}
 use Rattle.std.proofs.lemmas.Grind.{common_steps}
 use Rattle.std.proofs.lemmas.Slice.Eq.{bytes_eq-Decides}
 use Rattle.prog_text.specs.declared.lexing.token.Token.{Token}
@@ -47,10 +47,6 @@ kind u word h = subst Kind (sym h) (kind_tested (spelling u) refl)
 pub clash : {b : Bool} → b ≡ true → b ≡ false → ⊥
 clash yes_it no_it = true≢false (sym yes_it ∙ no_it)
 
-pub not_is : (b : Bool) → not b ≡ true → b ≡ false
-not_is true h = sym h
-not_is false h = refl
-
 -- a byte inside passes too
 pub passes_inside : (p : ℕ → Bool) (front more : List ℕ) (b : ℕ) → list_all p (front ++ b ∷ more) ≡ true → p b ≡ true
 passes_inside p [] more b h = (and_parts _ _ h).0
@@ -71,7 +67,7 @@ among_passes p (u ∷ us) word all (inr e) = among_passes p us word (and_parts _
 -- a sign begins with a byte of no word
 pub sign_begins : (word : List ℕ) → IsAmong signs word → is_word_byte (slice_index word 0) ≡ false
 sign_begins word there =
-    not_is _ (among_passes (λ w. not (is_word_byte (slice_index w 0))) signs word refl there)
+    not-true _ (among_passes (λ w. not (is_word_byte (slice_index w 0))) signs word refl there)
 
 -- what begins with a byte of no word is a sign
 pub begins_sign : (u : Token) (word : List ℕ) → Spells u word → is_word_byte (slice_index word 0) ≡ false → IsAmong signs word

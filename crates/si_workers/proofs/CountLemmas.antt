@@ -1,7 +1,6 @@
 -- Counts of what passes a test, as far as a u64 can tell.
-use Rattle.std.proofs.Common.{◌≡◌, ◌↔◌, ℕ, ◌+◌, ◌<◌, ◌≤◌, min, subst, Bool, List, length, arith, nat_lt, ◌==◌, ◌⊎◌, inl, inr}
+use Rattle.std.proofs.Common.{◌≡◌, ◌↔◌, ℕ, ◌<◌, min, Bool, List, length, arith, nat_lt, ◌==◌}
 use Rattle.std.specs.Prelude.{IsTrue}
-use Rattle.std.proofs.lemmas.Bool.{cases_lt}
 use Rattle.std.proofs.lemmas.Bool.Decides.{Decides-eqb, Decides-ltb}
 use Rattle.std.specs.List.{count_by}
 use Rattle.std.proofs.lemmas.List.Sums.{count_by-le-length}
@@ -23,14 +22,6 @@ pub positive_told : (n count : ℕ) → count ≡ min n most → IsTrue (nat_lt 
 positive_told n count e =
     let d = Decides-ltb 0 count in
     (λ t. let k = d.0 t in omega arith, λ s. d.1 (omega arith))
-
--- what holds below a number, and of it, holds below the next
-pub below_more : (P : ℕ → Type 0) (n : ℕ) → ((k : ℕ) → k < n → P k) → P n → (k : ℕ) → k < n + 1 → P k
-below_more P n below here k l = go (cases_lt k n)
-  where
-    go : (k < n) ⊎ (n ≤ k) → P k
-    go (inl before) = below k before
-    go (inr past) = let same : n ≡ k = omega arith in subst P same here
 
 -- a count is 1 where it is told as 1
 pub one_told : (n count : ℕ) → count ≡ min n most → IsTrue (count == 1) ↔ (n ≡ 1)

@@ -4,7 +4,7 @@ use Rattle.std.specs.Prelude.{Option, Some, None, is_some, filter, nat_le, unwra
 use Rattle.std.specs.List.{list_any}
 use Rattle.std.specs.List.Sorted.{IsStrictlySortedBy}
 use Rattle.std.specs.Map.{values_of}
-use Rattle.std.proofs.Math.Bool.{or-false}
+use Rattle.std.proofs.Math.Bool.{and-false, or-false}
 use Rattle.std.proofs.lemmas.Bool.{le-leb, lt-leb}
 use Rattle.std.proofs.lemmas.Bool.Decides.{nat_tests}
 use Rattle.std.proofs.lemmas.List.Elements.{filter-append, filter_agree}
@@ -203,12 +203,8 @@ kept_list f k o (v ∷ vs) rises = go (leb v.0 f) refl
         let high : f < v.0 = grind (arith, nat_tests) in
         let none = none_newer (v.0 + 1) k f vs (omega (arith, high)) rises.1 in
         shows o
-        ∙ ap (λ t. if not (t || false) && is_some o then (k, o) ∷ v ∷ vs else v ∷ vs) (sym (and_false (nat_lt k v.0)))
+        ∙ ap (λ t. if not (t || false) && is_some o then (k, o) ∷ v ∷ vs else v ∷ vs) (sym (and-false (nat_lt k v.0)))
         ∙ ap (λ t. if not ((nat_lt k v.0 && false) || t) && is_some o then (k, o) ∷ v ∷ vs else v ∷ vs) (sym none)
-      where
-        and_false : (b : Bool) → (b && false) ≡ false
-        and_false true = refl
-        and_false false = refl
 
 -- `whole` has of what is newer than n just what the rest of it has
 kept_by_test : (f n : ℕ) (whole vs : List (ℕ × Option ℤ)) →

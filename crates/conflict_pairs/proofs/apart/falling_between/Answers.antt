@@ -1,9 +1,9 @@
-use Rattle.std.proofs.Common.{◌≡◌, length, arith}
+use Rattle.std.proofs.Common.{◌≡◌, length, arith, below_more}
 use Rattle.std.specs.Prelude.{Some, slice_get}
 use Rattle.std.proofs.lemmas.Option.{slice_get_within}
 use Rattle.prog_paths.specs.Shown.{Falls}
 use Rattle.conflict_pairs.specs.Search.{FallsBetween, FoundWithin}
-use Rattle.conflict_pairs.proofs.Falling.{IfSome-either, below_more, own_start}
+use Rattle.conflict_pairs.proofs.Falling.{IfSome-either, own_start}
 use Rattle.conflict_pairs.proofs.apart.falling_between.Goals as goal
 
 pub loop-from-preserved : goal.loop-from-preserved

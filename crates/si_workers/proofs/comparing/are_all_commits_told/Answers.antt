@@ -1,6 +1,5 @@
-use Rattle.std.proofs.Common.{◌<◌, ◌+◌, rules}
+use Rattle.std.proofs.Common.{◌<◌, ◌+◌, below_more, rules}
 use Rattle.si_workers.specs.KeptAndTold.{commits_told}
-use Rattle.si_workers.proofs.CountLemmas.{below_more}
 use Rattle.si_workers.proofs.comparing.are_all_commits_told.Goals as goal
 
 pub loop-n-preserved : goal.loop-n-preserved
