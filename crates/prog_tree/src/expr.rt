@@ -87,8 +87,8 @@ pub enum Relation {
 }
 
 impl Relation {
-    /// Whether two values stand in the relation.
-    pub(crate) fn holds(self, left: i64, right: i64) -> bool
+    // Whether two values stand in the relation.
+    fn holds(self, left: i64, right: i64) -> bool
         ensures { result ≡ relates (relation_sign self) left right }
     {
         match self {
@@ -112,8 +112,8 @@ pub struct Comparison {
 }
 
 impl Comparison {
-    /// Whether it holds, or `None` where a result lies outside i64.
-    pub(crate) fn holds(&self, env: &Env) -> Option<bool>
+    // Whether it holds, or `None` where a result lies outside i64.
+    fn holds(&self, env: &Env) -> Option<bool>
         ensures { result ≡ comparison_holds (comparison_tree self.now) env.now }
     {
         let left = self.left.value(env)?;
@@ -152,8 +152,8 @@ pub struct Clause {
 }
 
 impl Clause {
-    /// Whether all comparisons hold, or `None` where a result lies outside i64.
-    pub(crate) fn holds(&self, env: &Env) -> Option<bool>
+    // Whether all comparisons hold, or `None` where a result lies outside i64.
+    fn holds(&self, env: &Env) -> Option<bool>
         ensures { result ≡ all_hold (clause_tree self.now) env.now }
     {
         let mut holds = true;
