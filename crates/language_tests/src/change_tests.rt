@@ -97,6 +97,7 @@ fn remove_row(rt: &impl Abort, rows: &mut Rows) {
     let cell = cell(0, 7, 1);
     let removed = rows.remove(&cell);
     assert!(rt; removed == Some(9) && rows.get(&cell) == None && rows.len() == 2);
+    assert!(rt; !rows.is_empty());
 }
 
 fn shown_rows(alloc: Global, rows: &Rows) -> Result<String, AllocError> {
@@ -120,6 +121,7 @@ fn shown_copy(rt: &impl Abort, alloc: Global, rows: &mut Rows) -> Result<String,
 #[test]
 fn rows_are_a_map_in_cell_order(rt: HostRuntime) -> Result<(), AllocError> {
     let mut rows = Rows::new(rt.alloc());
+    assert!(rt; rows.is_empty());
     let shown = shown_copy(&rt, rt.alloc(), &mut rows);
     drop(rows);
     let wanted = "Cell { table: 0, first: 7, second: 1 } 9; \
@@ -226,7 +228,7 @@ fn a_sequence_is_its_items(rt: HostRuntime) -> Result<(), AllocError> {
 #[test]
 fn a_run_has_done_nothing_at_first(rt: HostRuntime) -> Result<(), AllocError> {
     let progress = Progress::with_room(rt.alloc(), Env::new(rt.alloc()), 2)?;
-    assert!(rt; progress.env.len() == 0);
+    assert!(rt; progress.env.is_empty());
     assert!(rt; progress.deeds.is_empty() && progress.looks.is_empty());
     assert!(rt; progress.replies.is_empty() && progress.changes.iter().len() == 0);
     drop(progress);

@@ -1,6 +1,6 @@
 //! The names that a run has bound, with their values.
 
-ghost use Rattle.std.specs.Prelude.{◌≡◌, [], ◌∷◌, ◌++◌, length, take, IfOk, OnOk, OnErr};
+ghost use Rattle.std.specs.Prelude.{◌≡◌, ◌↔◌, [], ◌∷◌, ◌++◌, length, take, IfOk, IsTrue, OnOk, OnErr};
 ghost use Rattle.prog_tree.specs.Value.{value_in};
 
 use crate::name::Name;
@@ -79,6 +79,12 @@ impl<'a> Env<'a> {
         ensures { result ≡ length self.now }
     {
         self.bindings.len()
+    }
+
+    pub fn is_empty(&self) -> bool
+        ensures { IsTrue result ↔ (self.now ≡ []) }
+    {
+        self.bindings.is_empty()
     }
 
     /// Keeps the first `len` names, or all where there are fewer.

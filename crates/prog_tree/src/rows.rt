@@ -65,6 +65,12 @@ impl Rows {
         self.rows.len()
     }
 
+    pub fn is_empty(&self) -> bool
+        ensures { IsTrue result ↔ (self.now ≡ []) }
+    {
+        self.len() == 0
+    }
+
     /// The rows in the order of their cells.
     pub fn iter(&self) -> Iter<'_, Cell, i64>
         ensures rest { result ≡ self.now }
