@@ -40,6 +40,15 @@ fn rising_cells_are_found(rt: HostRuntime) -> Result<(), AllocError> {
 }
 
 #[test]
+fn rising_cells_are_the_same_where_all_are(rt: HostRuntime) -> Result<(), AllocError> {
+    let cells = rising(rt.alloc(), &[cell(1, 7, 0), cell(0, 7, 1)])?;
+    let copy = cells.copy()?;
+    let one = rising(rt.alloc(), &[cell(0, 7, 1)])?;
+    assert!(rt; cells.is_same(&copy) && !cells.is_same(&one));
+    Ok(())
+}
+
+#[test]
 fn a_region_holds_its_ends(rt: HostRuntime) {
     let region = Region {
         table: 1,

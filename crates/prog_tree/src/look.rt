@@ -20,16 +20,10 @@ pub enum Look {
     },
 }
 
-fn same_cells(cells: &[Cell], others: &[Cell]) -> bool
-    ensures { IsTrue result ↔ (cells.now ≡ others.now) }
-{
-    cells == others
-}
-
-fn same_rows(rows: &[(Cell, i64)], others: &[(Cell, i64)]) -> bool
+fn same_rows(rows: &Sequence<(Cell, i64)>, others: &Sequence<(Cell, i64)>) -> bool
     ensures { IsTrue result ↔ (rows.now ≡ others.now) }
 {
-    rows == others
+    rows.as_slice() == others.as_slice()
 }
 
 impl Look {
@@ -46,12 +40,7 @@ impl Look {
                     own: o,
                     rows: s,
                 },
-            ) => {
-                if !region.is_same(r) {
-                    return false;
-                }
-                same_cells(own.as_slice(), o.as_slice()) && same_rows(rows.as_slice(), s.as_slice())
-            }
+            ) => region.is_same(r) && own.is_same(o) && same_rows(rows, s),
             _ => false,
         }
     }

@@ -67,6 +67,13 @@ impl RisingCells {
         self.cells.as_slice()
     }
 
+    /// Whether both are the same cells.
+    pub fn is_same(&self, other: &RisingCells) -> bool
+        ensures { IsTrue result ↔ (self.now ≡ other.now) }
+    {
+        self.as_slice() == other.as_slice()
+    }
+
     pub fn contains(&self, cell: &Cell) -> bool
         ensures { result ≡ is_cell_among self.now cell.now }
     {

@@ -48,7 +48,7 @@ impl Sight {
         match (self, other) {
             (Sight::One(cell), Sight::One(c)) => cell == c,
             (Sight::Range { region, own }, Sight::Range { region: r, own: o }) => {
-                region.is_same(r) && own.as_slice() == o.as_slice()
+                region.is_same(r) && own.is_same(o)
             }
             _ => false,
         }
