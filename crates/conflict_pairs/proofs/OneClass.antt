@@ -5,6 +5,7 @@ use Rattle.std.specs.List.{AllZip}
 use Rattle.std.proofs.lemmas.List.{drop_more, drop_all, append-nil}
 use Rattle.std.proofs.lemmas.List.Elements.{All-weaker}
 use Rattle.std.proofs.lemmas.Option.{slice_get-get_or, slice_get_within, same_Some}
+use Rattle.prog_tree.proofs.Elements.{get_left}
 use Rattle.prog_check.specs.declared.path.Access.{Access}
 use Rattle.prog_check.specs.declared.path.Path.{Path}
 use Rattle.prog_paths.specs.declared.accesses.places.Placed.{Placed}
@@ -66,14 +67,6 @@ placed-at node n (y ∷ xs) (suc a) x at =
     let e : n + 1 + a ≡ n + suc a = omega arith in
     placed-at node (n + 1) xs a x at ∙ ap (λ (k : ℕ). Some (placed node k x)) e
 
-at-left : (xs ys : List Placed) (k : ℕ) (p : Placed) → slice_get xs k ≡ Some p → slice_get (xs ++ ys) k ≡ Some p
-at-left [] ys k p at = absurd (none k at)
-  where
-    none : (k : ℕ) → slice_get [] k ≡ Some p → ⊥
-    none k h = let lt = slice_get_within [] k p h in omega (arith, lt)
-at-left (x ∷ xs) ys zero p at = at
-at-left (x ∷ xs) ys (suc k) p at = at-left xs ys k p at
-
 at-right : (xs ys : List Placed) (k : ℕ) (p : Placed) → slice_get ys k ≡ Some p → slice_get (xs ++ ys) (length xs + k) ≡ Some p
 at-right [] ys k p at = let e : 0 + k ≡ k = omega arith in subst (λ (i : ℕ). slice_get ys i ≡ Some p) (sym e) at
 at-right (x ∷ xs) ys k p at =
@@ -91,7 +84,7 @@ place-from n (path ∷ rest) before zero a access h =
     let e : n + 0 ≡ n = omega arith in
     let f : 0 + a ≡ a = omega arith in
     at-right before (placed_from n 0 path.accesses ++ all_from (n + 1) rest) a (placed n a access)
-    (at-left (placed_from n 0 path.accesses) (all_from (n + 1) rest) a (placed n a access)
+    (get_left (placed_from n 0 path.accesses) (all_from (n + 1) rest) a (placed n a access)
     (placed-at n 0 path.accesses a access (ap (λ (p : Path). slice_get p.accesses a) is ∙ h.2) ∙ ap (λ (k : ℕ). Some (placed n k access)) f))
     ∙ ap (λ (k : ℕ). Some (placed k a access)) (sym e)
 place-from n (path ∷ rest) before (suc x) a access h =

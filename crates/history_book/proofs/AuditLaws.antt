@@ -1,13 +1,14 @@
 -- Rows that are taken up behind others.
 use Rattle.std.proofs.Common.{◌≡◌, ◌+◌, ◌<◌, ◌≤◌, List, [], ◌∷◌, ◌++◌, length, map, take, refl, ap, sym, ◌∙◌, subst, append_assoc, append-nil, arith}
-use Rattle.std.specs.Prelude.{Some, slice_get}
+use Rattle.std.specs.Prelude.{slice_get}
 use Rattle.std.specs.List.{range_with_len}
-use Rattle.std.proofs.lemmas.List.{length-append}
+use Rattle.std.proofs.lemmas.List.{length-append, take_at}
 use Rattle.std.proofs.lemmas.List.FromFn.{map-range_with_len_more, length-map-range_with_len}
 use Rattle.prog_tree.specs.declared.program.Draft.{Draft}
 use Rattle.prog_tree.specs.Syntax.{DraftTree}
 use Rattle.prog_tree.specs.Table.{TableState}
 use Rattle.prog_tree.specs.Tree.{draft_tree}
+use Rattle.prog_tree.proofs.Elements.{get_seam}
 use Rattle.history_book.specs.Audit.{audited, taken_up, IsRightRow, IsRowFault, AreRightBehind, IsAuditFault, IsRowRefusal}
 use Rattle.history_book.specs.History.{Instance}
 use Rattle.history_book.specs.View.{BookView, instance_of, history_of, most_endings}
@@ -47,15 +48,6 @@ module _ (set : DraftTree) (opening : TableState) where
       let along : h ++ history_of (r ∷ rows) ≡ (h ++ instance_of r ∷ []) ++ history_of rows = sym (append_assoc h (instance_of r ∷ []) (history_of rows)) in
       (before.0, right-push (h ++ instance_of r ∷ []) rows row before.1 (subst (λ g. IsRightRow set opening g row) along here))
 
--- the row behind those that were taken up
-first_left : (yielded rest : List HistoryRow) (row : HistoryRow) → slice_get (yielded ++ row ∷ rest) (length yielded) ≡ Some row
-first_left [] rest row = refl
-first_left (r ∷ yielded) rest row = first_left yielded rest row
-
-taken_before : (yielded rest : List HistoryRow) → take (length yielded) (yielded ++ rest) ≡ yielded
-taken_before [] rest = refl
-taken_before (r ∷ yielded) rest = ap (λ l. r ∷ l) (taken_before yielded rest)
-
 -- a row that is refused is the first that is wrong
 pub refused_at : (v : BookView) (set : Draft) (opening : TableState) (yielded left rest all : List HistoryRow) (row : HistoryRow) (fault : AuditFault) → v ≡ audited set opening yielded →
     yielded ++ left ≡ all → left ≡ row ∷ rest → length all ≤ most_endings → AreRightBehind (draft_tree set) opening [] yielded → IsRowRefusal v row fault →
@@ -66,12 +58,12 @@ refused_at v set opening yielded left rest all row (audit.Row number fault) book
     let here : IsRowRefusal (audited set opening yielded) row (audit.Row number fault) = subst (λ (w : BookView). IsRowRefusal w row (audit.Row number fault)) book refused in
     let place : length yielded ≡ number = sym here.0 in
     let whole : yielded ++ row ∷ rest ≡ all = ap (λ l. yielded ++ l) (sym first) ∙ is in
-    let taken : yielded ≡ take number all = sym (taken_before yielded (row ∷ rest)) ∙ ap (take (length yielded)) whole ∙ ap (λ n. take n all) place in (
+    let taken : yielded ≡ take number all = sym (take_at yielded (row ∷ rest) (length yielded) refl) ∙ ap (take (length yielded)) whole ∙ ap (λ n. take n all) place in (
       few,
       record {
         before = subst (AreRightBehind (draft_tree set) opening []) taken right;
         wrong = row;
-        at = ap (slice_get all) (sym place) ∙ ap (λ l. slice_get l (length yielded)) (sym whole) ∙ first_left yielded rest row;
+        at = ap (slice_get all) (sym place) ∙ ap (λ l. slice_get l (length yielded)) (sym whole) ∙ get_seam yielded rest row;
         is = subst (λ rows. IsRowFault (draft_tree set) opening (history_of rows) row fault) taken here.1;
       },
     )

@@ -8,6 +8,7 @@ use Rattle.prog_tree.specs.ChangeSet.{ChangeSet, touches_cell}
 use Rattle.prog_tree.specs.Evaluation.{Evaluation}
 use Rattle.prog_tree.specs.Syntax.{ProgramTree, DraftTree}
 use Rattle.prog_tree.specs.Table.{TableState}
+use Rattle.prog_tree.proofs.Elements.{get_left, get_seam}
 use Rattle.version_store.specs.Clash.{last_touch, IsClash}
 use Rattle.version_store.specs.Commits.{state_at}
 use Rattle.history_book.specs.Audit.{IsRightRow, IsRowFault, AreRightBehind, IsWrongAt}
@@ -22,12 +23,6 @@ use Rattle.history_book.proofs.EndingLaws.{true_rows-push, true_row-in_longer}
 use Rattle.history_book.proofs.HistoryLaws.{lawful-nil, lawful-push, length-commits_of}
 use Rattle.history_book.proofs.StateLaws.{nth_instance-behind, state_at-commits_after, commits_of-is}
 use Rattle.history_book.proofs.BookLaws.{history-push}
-
--- an element of a list is one of a longer list
-pub still_there : {X : Type 0} (xs ys : List X) (n : ℕ) (x : X) → slice_get xs n ≡ Some x → slice_get (xs ++ ys) n ≡ Some x
-still_there [] ys n x found = absurd (cc)
-still_there (y ∷ xs) ys zero x found = found
-still_there (y ∷ xs) ys (suc n) x found = still_there xs ys n x found
 
 module _ (set : DraftTree) (opening : TableState) where
   -- ---- right rows are lawful
@@ -108,11 +103,7 @@ module _ (set : DraftTree) (opening : TableState) where
 
   still_numbered : (h more : List Instance) (n : ℕ) (b : Instance) → nth_instance h n ≡ Some b → nth_instance (h ++ more) n ≡ Some b
   still_numbered h more zero b found = found
-  still_numbered h more (suc n) b found = still_there h more n b found
-
-  seam : {X : Type 0} (xs ys : List X) (x : X) → slice_get (xs ++ x ∷ ys) (length xs) ≡ Some x
-  seam [] ys x = refl
-  seam (y ∷ xs) ys x = seam xs ys x
+  still_numbered h more (suc n) b found = get_left h more n b found
 
   of_map : {X Y : Type 0} (f : X → Y) (xs : List X) (n : ℕ) (y : Y) → slice_get (map f xs) n ≡ Some y → (x : X) × (slice_get xs n ≡ Some x) × (n < length xs) × (f x ≡ y)
   of_map f [] n y found = absurd (cc)
@@ -121,7 +112,7 @@ module _ (set : DraftTree) (opening : TableState) where
 
   module _ (h more : List Instance) (i : Instance) (lawful : IsLawful set opening (h ++ i ∷ more)) where
     at_end : nth_instance (h ++ i ∷ more) (length h + 1) ≡ Some i
-    at_end = nth_instance-behind (h ++ i ∷ more) (length h) ∙ seam h more i
+    at_end = nth_instance-behind (h ++ i ∷ more) (length h) ∙ get_seam h more i
 
     within : i.start ≤ length h
     within = let low : i.start < length h + 1 = lawful.starts (length h + 1) i at_end in omega arith
@@ -143,7 +134,7 @@ module _ (set : DraftTree) (opening : TableState) where
         let number : last_touch c 1 ws ≡ 1 + t.place = t.number in
         let did : Instance → ChangeSet = λ b. (evaluation set opening h b).changes in
         let a = of_map did h t.place t.commit (ap (λ vs. slice_get vs t.place) (sym (commits_of-is set opening h starts_here)) ∙ t.at) in
-        let at : nth_instance (h ++ i ∷ more) (t.place + 1) ≡ Some a.0 = nth_instance-behind (h ++ i ∷ more) t.place ∙ still_there h (i ∷ more) t.place a.0 a.1 in
+        let at : nth_instance (h ++ i ∷ more) (t.place + 1) ≡ Some a.0 = nth_instance-behind (h ++ i ∷ more) t.place ∙ get_left h (i ∷ more) t.place a.0 a.1 in
         let start : a.0.start < t.place + 1 = lawful.starts (t.place + 1) a.0 at in
         let same : evaluation set opening (h ++ i ∷ more) a.0 ≡ evaluation set opening h a.0 = evaluation-append h (i ∷ more) a.0 (omega (arith, a.2)) in
         lawful.apart (t.place + 1) (length h + 1) a.0 i c at at_end (omega arith) (omega (arith, a.2))

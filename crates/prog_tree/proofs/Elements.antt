@@ -1,5 +1,5 @@
--- Elements of lists: at a place, behind a map, passing a test, and by recursion.
-use Rattle.std.proofs.Common.{◌≡◌, ℕ, ◌⊎◌, inl, inr, Bool, true, List, [], ◌∷◌, ◌++◌, map, refl, sym, subst, ap, ◌∙◌, arith, zero, suc, Contains, Some}
+-- Elements of lists: at a place, behind a map, in a longer list, passing a test, and by recursion.
+use Rattle.std.proofs.Common.{◌≡◌, ℕ, ◌⊎◌, inl, inr, Bool, true, List, [], ◌∷◌, ◌++◌, length, map, refl, sym, subst, ap, ◌∙◌, arith, zero, suc, Contains, Some}
 use Rattle.std.specs.Prelude.{slice_get, All}
 use Rattle.std.specs.List.{list_any}
 use Rattle.std.proofs.lemmas.Bool.{false≢true, or_cases}
@@ -32,6 +32,19 @@ pub mapped_at : {A B : Type 0} (f : A → B) (xs : List A) (n : ℕ) (x : A) →
 mapped_at f [] n x at = absurd (none-some x at)
 mapped_at f (y ∷ xs) zero x at = ap (λ z. Some (f z)) (same_Some y x at)
 mapped_at f (y ∷ xs) (suc n) x at = mapped_at f xs n x at
+
+-- ---- in a longer list
+
+-- what stands at a place stands there with more behind it
+pub get_left : {A : Type 0} (xs ys : List A) (n : ℕ) (x : A) → slice_get xs n ≡ Some x → slice_get (xs ++ ys) n ≡ Some x
+get_left [] ys n x at = absurd (none-some x at)
+get_left (y ∷ xs) ys zero x at = at
+get_left (y ∷ xs) ys (suc n) x at = get_left xs ys n x at
+
+-- what comes right behind a list stands at its length
+pub get_seam : {A : Type 0} (xs ys : List A) (x : A) → slice_get (xs ++ x ∷ ys) (length xs) ≡ Some x
+get_seam [] ys x = refl
+get_seam (y ∷ xs) ys x = get_seam xs ys x
 
 -- ---- passing a test
 

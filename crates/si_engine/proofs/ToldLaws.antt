@@ -14,11 +14,11 @@ use Rattle.prog_tree.specs.declared.deed.End.TheVariants as run
 use Rattle.prog_tree.specs.Evaluation.{Evaluation}
 use Rattle.prog_tree.specs.Syntax.{ProgramTree, DraftTree}
 use Rattle.prog_tree.specs.Table.{TableState}
+use Rattle.prog_tree.proofs.Elements.{get_left, get_seam}
 use Rattle.version_store.specs.Clash.{clash_of}
 use Rattle.version_store.specs.Versions.{reclaimed}
 use Rattle.history_book.specs.History.{Instance, evaluation, commits_of}
 use Rattle.history_book.proofs.HistoryLaws.{evaluation-push, get-push}
-use Rattle.history_book.proofs.RightLaws.{still_there}
 use Rattle.si_engine.specs.declared.event.Event.{Event}
 use Rattle.si_engine.specs.declared.event.Event.TheVariants as event
 use Rattle.si_engine.specs.declared.event.Reply.{Reply}
@@ -40,12 +40,7 @@ itself x = (0, omega arith, refl)
 -- a commit that was noted still is, behind one more
 committed_at-longer : (xs : List ℕ) (x y n : ℕ) → committed_at xs n ≡ Some y → committed_at (xs ++ x ∷ []) n ≡ Some y
 committed_at-longer xs x y zero at = absurd (cc)
-committed_at-longer xs x y (suc n) at = still_there xs (x ∷ []) n y at
-
--- and the new one
-get-last : {X : Type 0} (xs : List X) (x : X) → slice_get (xs ++ x ∷ []) (length xs) ≡ Some x
-get-last [] x = refl
-get-last (z ∷ xs) x = get-last xs x
+committed_at-longer xs x y (suc n) at = get_left xs (x ∷ []) n y at
 
 -- an event that begins an instance commits none
 begins_alone : (begin : Event) (call : Call) (r : Reply) → call_in begin ≡ Some call → commit_in (begin, r) ≡ []
@@ -288,7 +283,7 @@ module _ (draft : DraftTree) (opening : TableState) where
     begun_told =
         answered said beginning s with_one told tells_nothing (begins_alone begin (call_of_instance begins) beginning.1 asks) no_commit_there refl
         (λ i b at. active_at i b (get-push s.begun (Some (at_begin begins)) (Some b) i at))
-        (λ i at. still_there s.begun (Some (at_begin begins) ∷ []) i None at)
+        (λ i at. get_left s.begun (Some (at_begin begins) ∷ []) i None at)
         (omega (arith, length-append s.begun (Some (at_begin begins) ∷ [])))
       where
         active_at : (i : ℕ) (b : Active) →
@@ -413,7 +408,7 @@ module _ (draft : DraftTree) (opening : TableState) where
             let number : length s.history + 1 ≡ n = cc in
             let was = told.counted in
             let place : n ≡ suc (length (commits_said said)) = omega (arith, number, was) in
-            ap (committed_at (commits_said said ++ i ∷ [])) place ∙ get-last (commits_said said) i ∙ ap (λ m. Some m) same
+            ap (committed_at (commits_said said ++ i ∷ [])) place ∙ get_seam (commits_said said) [] i ∙ ap (λ m. Some m) same
 
   -- ---- every event
 
