@@ -1,8 +1,11 @@
 //! What follows from a dangerous structure, and what helps.
 ghost use Rattle.std.specs.Prelude.{◌≡◌, ◌↔◌, IfOk, IsTrue, string_bytes};
-ghost use Rattle.analysis_words.specs.Helping.{clashing_text, keep_text, keepers_text, outside_text, parameter_text, shared_text, IsHelp, TakesSharedCell};
+ghost use Rattle.analysis_words.specs.Helping.{clashing_text, keep_text, keepers_text};
+ghost use Rattle.analysis_words.specs.Helping.{outside_text, parameter_text, shared_text, IsHelp};
+ghost use Rattle.analysis_words.specs.Helping.{TakesSharedCell};
 ghost use Rattle.analysis_words.specs.Nodes.{seen};
-ghost use Rattle.analysis_words.specs.Refusing.{IsAdvice, IsTwinAdvice, advice_text, circle_text, step_text, twin_advice_text, way_text};
+ghost use Rattle.analysis_words.specs.Refusing.{IsAdvice, IsTwinAdvice, advice_text, circle_text};
+ghost use Rattle.analysis_words.specs.Refusing.{step_text, twin_advice_text, way_text};
 
 use crate::looks::{is_under_unknown_key, looks_at_range, meets_body};
 use crate::quoted::quoted_cells;

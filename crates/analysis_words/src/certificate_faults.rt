@@ -2,7 +2,11 @@
 ghost use Rattle.std.specs.Prelude.{◌≡◌, IfNone, IfOk, IfSome, string_bytes};
 ghost use Rattle.robust_cert.specs.Reading.{IsTextOf};
 ghost use Rattle.analysis_words.specs.Nodes.{seen, sight_of};
-ghost use Rattle.analysis_words.specs.Saying.{along_text, asked_in, body_size_at, broken_rule, count_text, counts_text, entry_of, first_mistold, front_of, is_told, json_words, mistold_text, IsAskedText, IsNoCertificate, IsOfFault, IsQuestionText, IsSaidOf};
+ghost use Rattle.analysis_words.specs.Saying.{along_text, asked_in, body_size_at, broken_rule};
+ghost use Rattle.analysis_words.specs.Saying.{count_text, counts_text, entry_of, first_mistold};
+ghost use Rattle.analysis_words.specs.Saying.{front_of, is_told, json_words, mistold_text};
+ghost use Rattle.analysis_words.specs.Saying.{IsAskedText, IsNoCertificate, IsOfFault};
+ghost use Rattle.analysis_words.specs.Saying.{IsQuestionText, IsSaidOf};
 
 use crate::levels::{level_list, number_at};
 use crate::shown::{Shown, access_text, node_name};

@@ -1,8 +1,11 @@
 //! The edges of a dangerous structure in words.
 ghost use Rattle.std.specs.Prelude.{◌≡◌, ◌↔◌, IfNone, IfOk, IfSome, IsTrue, string_bytes};
-ghost use Rattle.analysis_words.specs.Edges.{change_text, look_text, told_text, twin_change_text, twin_look_text, unseen_text, IsRepeated, IsSameQuestion};
+ghost use Rattle.analysis_words.specs.Edges.{change_text, look_text, told_text, twin_change_text};
+ghost use Rattle.analysis_words.specs.Edges.{twin_look_text, unseen_text, IsRepeated};
+ghost use Rattle.analysis_words.specs.Edges.{IsSameQuestion};
 ghost use Rattle.analysis_words.specs.Nodes.{seen};
-ghost use Rattle.analysis_words.specs.Refusing.{LacksQuestion, ShowsEdge, ShowsQuestion, ShowsTwins};
+ghost use Rattle.analysis_words.specs.Refusing.{LacksQuestion, ShowsEdge, ShowsQuestion};
+ghost use Rattle.analysis_words.specs.Refusing.{ShowsTwins};
 
 use crate::instances::{instance_text, numbers_along};
 use crate::pointed::point_at_access;

@@ -1,6 +1,8 @@
 //! Instances of programs with the numbers that samples give their parameters.
 ghost use Rattle.std.specs.Prelude.{◌≡◌, IfOk, string_bytes};
-ghost use Rattle.analysis_words.specs.Instances.{given_text, given_from, instance_text, node_of, numbers_along, numbers_text, opening, params_along};
+ghost use Rattle.analysis_words.specs.Instances.{given_text, given_from, instance_text, node_of};
+ghost use Rattle.analysis_words.specs.Instances.{numbers_along, numbers_text, opening};
+ghost use Rattle.analysis_words.specs.Instances.{params_along};
 ghost use Rattle.analysis_words.specs.Nodes.{seen};
 
 use crate::shown::{Shown, node_name};

@@ -2,7 +2,10 @@
 ghost use Rattle.std.specs.Prelude.{◌≡◌, ◌≤◌, ◌++◌, IfOk, OnOk, length, string_bytes};
 ghost use Rattle.std.specs.List.{before_first, prefix_len};
 ghost use Rattle.text_places.specs.Tokens.{is_before_key};
-ghost use Rattle.analysis_words.specs.Quoting.{cells_of, ends_statement, gap_before, in_one_line, is_before_bracket, is_before_end, quoted_cells, quoted_statement, spaced_byte, to_bracket, with_single_spaces};
+ghost use Rattle.analysis_words.specs.Quoting.{cells_of, ends_statement, gap_before, in_one_line};
+ghost use Rattle.analysis_words.specs.Quoting.{is_before_bracket, is_before_end, quoted_cells};
+ghost use Rattle.analysis_words.specs.Quoting.{quoted_statement, spaced_byte, to_bracket};
+ghost use Rattle.analysis_words.specs.Quoting.{with_single_spaces};
 
 use crate::limits::MAX_QUOTED;
 use std::alloc::{AllocError, Global};

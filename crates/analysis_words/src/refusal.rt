@@ -1,7 +1,8 @@
 //! The refusal of a set in words.
 ghost use Rattle.std.specs.Prelude.{IfNone, IfOk, IfSome, string_bytes};
 ghost use Rattle.analysis_words.specs.Nodes.{seen, sight_of};
-ghost use Rattle.analysis_words.specs.Refusing.{LacksDanger, ShowsBoth, ShowsDanger, ShowsOne, ShowsRefusal};
+ghost use Rattle.analysis_words.specs.Refusing.{LacksDanger, ShowsBoth, ShowsDanger, ShowsOne};
+ghost use Rattle.analysis_words.specs.Refusing.{ShowsRefusal};
 
 use crate::advice::{advice, twin_advice};
 use crate::edges::{edge_words, is_repeated, twin_words};

@@ -1,7 +1,8 @@
 //! Why a set is not repaired, in words.
 ghost use Rattle.std.specs.Prelude.{◌≡◌, IfNone, IfOk, IfSome, string_bytes};
 ghost use Rattle.prog_tree.specs.Tree.{draft_tree};
-ghost use Rattle.analysis_words.specs.Repairs.{SaysObstacle, SaysStop, limits_text, obstacle_reason, obstacle_verb};
+ghost use Rattle.analysis_words.specs.Repairs.{SaysObstacle, SaysStop, limits_text};
+ghost use Rattle.analysis_words.specs.Repairs.{obstacle_reason, obstacle_verb};
 ghost use Rattle.si_repair.specs.declared.repairs.fault.RepairFault.TheVariants as f;
 
 use crate::looks::reason_words;

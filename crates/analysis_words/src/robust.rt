@@ -3,7 +3,9 @@ ghost use Rattle.std.specs.Prelude.{◌≡◌, IfOk, string_bytes};
 ghost use Rattle.std.specs.List.{range_with_len};
 ghost use Rattle.robust_cert.specs.Sharing.{reason_at, HasReason};
 ghost use Rattle.analysis_words.specs.Nodes.{seen, sight_of};
-ghost use Rattle.analysis_words.specs.Robust.{apart_count, entries_text, is_apart, IsMostText, levels_text, questions_text, reasons_text, SaysRobust};
+ghost use Rattle.analysis_words.specs.Robust.{apart_count, entries_text, is_apart, IsMostText};
+ghost use Rattle.analysis_words.specs.Robust.{levels_text, questions_text, reasons_text};
+ghost use Rattle.analysis_words.specs.Robust.{SaysRobust};
 
 use crate::covering::{Covering, most_covering};
 use crate::levels::level_list;

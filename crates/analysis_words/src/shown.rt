@@ -1,6 +1,8 @@
 //! Nodes and their accesses, as they stand in the text of a set.
 ghost use Rattle.std.specs.Prelude.{◌≡◌, IfNone, IfOk, IfSome, flat_map, string_bytes};
-ghost use Rattle.analysis_words.specs.Nodes.{access_of, branches_text, is_in_body, letter_of, node_name, program_of, seen, turns_by, turns_text, HasNoAccess, IsAccessPlace, IsAccessText};
+ghost use Rattle.analysis_words.specs.Nodes.{access_of, branches_text, is_in_body, letter_of};
+ghost use Rattle.analysis_words.specs.Nodes.{node_name, program_of, seen, turns_by, turns_text};
+ghost use Rattle.analysis_words.specs.Nodes.{HasNoAccess, IsAccessPlace, IsAccessText};
 
 use crate::quoted::quoted_statement;
 use fault_words::program_name;

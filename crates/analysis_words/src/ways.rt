@@ -1,7 +1,8 @@
 //! How a whole set is repaired.
 ghost use Rattle.std.specs.Prelude.{◌≡◌, ◌≢◌, ◌↔◌, false, IfOk, IsTrue};
 ghost use Rattle.prog_tree.specs.Tree.{draft_tree};
-ghost use Rattle.analysis_words.specs.Ways.{ways_text, IsRepairedByKeeps, IsRepairedByTables, IsWaysText};
+ghost use Rattle.analysis_words.specs.Ways.{ways_text, IsRepairedByKeeps, IsRepairedByTables};
+ghost use Rattle.analysis_words.specs.Ways.{IsWaysText};
 ghost use Rattle.si_repair.specs.declared.repairs.fault.RepairFault.TheVariants as f;
 
 use prog_check::ProgramSet;

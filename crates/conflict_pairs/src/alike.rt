@@ -1,7 +1,8 @@
 //! Accesses that are alike, and nodes with the same covers.
 ghost use Rattle.std.specs.Prelude.{◌≡◌, ◌↔◌, ◌<◌, length, IsTrue, IfOk};
 ghost use Rattle.prog_paths.specs.Places.{AreAlike};
-ghost use Rattle.conflict_pairs.specs.Alike.{CoverAlike, HaveSameCovers, accesses_at, AreCoverClasses};
+ghost use Rattle.conflict_pairs.specs.Alike.{CoverAlike, HaveSameCovers, accesses_at};
+ghost use Rattle.conflict_pairs.specs.Alike.{AreCoverClasses};
 
 use prog_check::{Access, Column, Path};
 use prog_paths::may_cover;

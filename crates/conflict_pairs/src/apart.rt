@@ -1,5 +1,6 @@
 //! Chains that show that two accesses never meet.
-ghost use Rattle.std.specs.Prelude.{◌≡◌, ◌⊎◌, ◌↔◌, [], ◌∷◌, ℕ, Some, slice_get, length, IsTrue, All, IfOk, IfSome, IfNone};
+ghost use Rattle.std.specs.Prelude.{◌≡◌, ◌⊎◌, ◌↔◌, [], ◌∷◌, ℕ, Some, slice_get, length, IsTrue};
+ghost use Rattle.std.specs.Prelude.{All, IfOk, IfSome, IfNone};
 ghost use Rattle.order_facts.specs.declared.steps.Node.{Node};
 ghost use Rattle.order_facts.specs.Chain.{HasContradiction};
 ghost use Rattle.prog_paths.specs.Facts.{column_facts, second_facts, question_facts};

@@ -2,7 +2,8 @@
 ghost use Rattle.std.specs.Prelude.{◌≡◌, ◌<◌, length, slice_index_or, IsTrue, All, IfOk};
 ghost use Rattle.prog_paths.specs.Places.{all_from};
 ghost use Rattle.conflict_pairs.specs.Alike.{IsLike};
-ghost use Rattle.conflict_pairs.specs.Classes.{HasCoverClass, AreOneClass, AreNumbered, AreLikePlaces};
+ghost use Rattle.conflict_pairs.specs.Classes.{HasCoverClass, AreOneClass, AreNumbered};
+ghost use Rattle.conflict_pairs.specs.Classes.{AreLikePlaces};
 ghost use Rattle.conflict_pairs.specs.Pairing.{IsAskedAt, asked_at};
 
 use crate::alike::{are_alike, cover_classes_of};

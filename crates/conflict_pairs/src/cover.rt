@@ -1,12 +1,13 @@
 //! Pairs of accesses that cover a question.
-ghost use Rattle.std.specs.Prelude.{◌≡◌, ◌≢◌, ◌↔◌, ◌<◌, ◌++◌, [], ◌∷◌, ℕ, List, All, IfOk, OnOk, IfSome, IfNone, IsTrue, Some, slice_get};
+ghost use Rattle.std.specs.Prelude.{◌≡◌, ◌≢◌, ◌↔◌, ◌<◌, ◌++◌, [], ◌∷◌, ℕ, List, All, IfOk, OnOk};
+ghost use Rattle.std.specs.Prelude.{IfSome, IfNone, IsTrue, Some, slice_get};
 ghost use Rattle.order_facts.specs.Chain.{Entails, IsConsistent, IsStep};
 ghost use Rattle.prog_check.specs.declared.path.Access.{Access};
 ghost use Rattle.prog_check.specs.declared.path.Term.{Term};
 ghost use Rattle.prog_paths.specs.Kinds.{option_items};
 ghost use Rattle.prog_paths.specs.Facts.{mine_node, their_node};
-ghost use Rattle.prog_paths.specs.Shown.{Runs, ShowEqual, second_terms, key_pairs};
-ghost use Rattle.prog_paths.specs.Shown.{AllEqual, CoversBy};
+ghost use Rattle.prog_paths.specs.Shown.{Runs, ShowEqual, second_terms, key_pairs, AllEqual};
+ghost use Rattle.prog_paths.specs.Shown.{CoversBy};
 ghost use Rattle.conflict_pairs.specs.Verdicts.{IsShortest};
 ghost use Rattle.conflict_pairs.specs.Search.{CoversAt, CoversFirst};
 

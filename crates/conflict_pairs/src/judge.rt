@@ -4,10 +4,12 @@ ghost use Rattle.order_facts.specs.Chain.{IsConsistent};
 ghost use Rattle.prog_paths.specs.Facts.{question_facts};
 ghost use Rattle.prog_check.specs.declared.path.Access.{Access};
 ghost use Rattle.prog_paths.specs.Questions.{IsQuestion, ChangesSingleCells, two, between};
-ghost use Rattle.conflict_pairs.specs.Verdicts.{HasFall, NumbersFall, IsShortest, IsRight, TellsExposed};
+ghost use Rattle.conflict_pairs.specs.Verdicts.{HasFall, NumbersFall, IsShortest, IsRight};
+ghost use Rattle.conflict_pairs.specs.Verdicts.{TellsExposed};
 ghost use Rattle.conflict_pairs.specs.Alike.{IsAsked, IsJudgedAt};
 ghost use Rattle.conflict_pairs.specs.Pairing.{ArePairsJudged, IsAskedBetween, question_at};
-ghost use Rattle.conflict_pairs.specs.Search.{CoversAt, ShowEqualAt, IsCoverFound, IsNoCover, IsLeftOpen, IsUncovered, IsJudged};
+ghost use Rattle.conflict_pairs.specs.Search.{CoversAt, ShowEqualAt, IsCoverFound, IsNoCover};
+ghost use Rattle.conflict_pairs.specs.Search.{IsLeftOpen, IsUncovered, IsJudged};
 
 use crate::apart::{contradiction, number_fall};
 use crate::chain::Chain;

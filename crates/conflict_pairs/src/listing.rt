@@ -1,11 +1,14 @@
 //! All questions of a list of paths.
-ghost use Rattle.std.specs.Prelude.{◌≡◌, ◌↔◌, ◌++◌, ◌+◌, ◌<◌, ◌≤◌, ◌^◌, length, map, slice_index_or, vec_len, vec_capacity, All, IfOk, OnOk, Err};
+ghost use Rattle.std.specs.Prelude.{◌≡◌, ◌↔◌, ◌++◌, ◌+◌, ◌<◌, ◌≤◌, ◌^◌, length, map};
+ghost use Rattle.std.specs.Prelude.{slice_index_or, vec_len, vec_capacity, All, IfOk, OnOk, Err};
 ghost use Rattle.conflict_pairs.specs.declared.fault.PairFault as PairFault;
 ghost use Rattle.prog_paths.specs.Places.{all_from};
-ghost use Rattle.prog_paths.specs.Questions.{ChangesSingleCells, asked_by, asked_among, questions_of};
+ghost use Rattle.prog_paths.specs.Questions.{ChangesSingleCells, asked_by, asked_among};
+ghost use Rattle.prog_paths.specs.Questions.{questions_of};
 ghost use Rattle.prog_paths.specs.Limits.{most_questions};
 ghost use Rattle.conflict_pairs.specs.Classes.{starts_from};
-ghost use Rattle.conflict_pairs.specs.Pairing.{ArePairsJudged, AreQuestionsOf, HasPlaces, StandsAt, place_at, questions_at};
+ghost use Rattle.conflict_pairs.specs.Pairing.{ArePairsJudged, AreQuestionsOf, HasPlaces, StandsAt};
+ghost use Rattle.conflict_pairs.specs.Pairing.{place_at, questions_at};
 ghost use Rattle.conflict_pairs.specs.Table.{StandsFor};
 
 use crate::classes::AccessClasses;

@@ -1,7 +1,8 @@
 //! How many steps lie between each node and one of them, found round by round.
 
 ghost use Rattle.std.specs.Prelude.{◌≡◌, ◌↔◌, ◌<◌, length, IfOk, IsTrue};
-ghost use Rattle.dep_graph.specs.Distances.{LeadsToKnown, IsNextDistance, AreNextDistances, KnowsWithin};
+ghost use Rattle.dep_graph.specs.Distances.{LeadsToKnown, IsNextDistance, AreNextDistances};
+ghost use Rattle.dep_graph.specs.Distances.{KnowsWithin};
 
 use order_facts::Square;
 use std::alloc::{AllocError, Global};

@@ -1,6 +1,7 @@
 //! The static graph of a table of questions.
 
-ghost use Rattle.std.specs.Prelude.{◌≡◌, ◌↔◌, List, length, ◌<◌, ◌≤◌, true, IfOk, IfSome, IfNone, IsTrue};
+ghost use Rattle.std.specs.Prelude.{◌≡◌, ◌↔◌, List, length, ◌<◌, ◌≤◌, true, IfOk, IfSome, IfNone};
+ghost use Rattle.std.specs.Prelude.{IsTrue};
 ghost use Rattle.prog_check.specs.declared.path.Path.{Path};
 ghost use Rattle.prog_paths.specs.StaticGraph.{StaticEdge, IsVulnerable, Leads, IsDangerous};
 ghost use Rattle.conflict_pairs.specs.Table.{StandsFor};

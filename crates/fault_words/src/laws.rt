@@ -9,7 +9,8 @@ ghost use Rattle.prog_text.specs.declared.lexing.token.Token.{Token};
 ghost use Rattle.prog_text.specs.Cut.{Spells};
 ghost use Rattle.prog_text.specs.Grammar.{IsSet};
 ghost use Rattle.prog_check.specs.Paths.{statement_count};
-ghost use Rattle.fault_words.specs.Beginnings.{beginnings_among, draft_beginnings, firsts_of, is_first};
+ghost use Rattle.fault_words.specs.Beginnings.{beginnings_among, draft_beginnings, firsts_of};
+ghost use Rattle.fault_words.specs.Beginnings.{is_first};
 
 /// The words by which tables, programs and statements are found in a text are those with which the
 /// grammar begins them. So where they are counted, each statement is met at its number: in the

@@ -2,7 +2,9 @@
 ghost use Rattle.std.specs.Prelude.{◌≡◌, IfOk, map, string_bytes};
 ghost use Rattle.prog_check.specs.Faults.{program_names, table_names};
 ghost use Rattle.prog_tree.specs.Tree.{draft_tree};
-ghost use Rattle.fault_words.specs.Naming.{cell_text, cell_with, end_text, only_range, program_name, program_params, range_text, region_text, region_with, second_range};
+ghost use Rattle.fault_words.specs.Naming.{cell_text, cell_with, end_text, only_range};
+ghost use Rattle.fault_words.specs.Naming.{program_name, program_params, range_text, region_text};
+ghost use Rattle.fault_words.specs.Naming.{region_with, second_range};
 
 use prog_check::ProgramSet;
 use prog_tree::{Arity, Cell, Draft, Name, Region};

@@ -1,7 +1,8 @@
 //! The block that is open at a place of a text.
 ghost use Rattle.std.specs.Prelude.{◌≡◌, IfOk, option_map, string_bytes};
 ghost use Rattle.text_places.specs.Reading.{without_comments};
-ghost use Rattle.fault_words.specs.Blocks.{begins_head, closes, head_before, head_of, last_before, open_block, open_head, open_text, opens};
+ghost use Rattle.fault_words.specs.Blocks.{begins_head, closes, head_before, head_of, last_before};
+ghost use Rattle.fault_words.specs.Blocks.{open_block, open_head, open_text, opens};
 
 use std::alloc::{AllocError, Global};
 use text_places::{before, behind, line_number, short_word, stands_free};

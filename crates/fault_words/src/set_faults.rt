@@ -1,6 +1,7 @@
 //! The faults of a set in words.
 ghost use Rattle.std.specs.Prelude.{◌≡◌, IfNone, IfOk, IfSome, string_bytes};
-ghost use Rattle.fault_words.specs.Pointing.{place_of, HasNone, HasNoPlace, IsPlaceOf, PointsAt, PointsAtFlaw};
+ghost use Rattle.fault_words.specs.Pointing.{place_of, HasNone, HasNoPlace, IsPlaceOf, PointsAt};
+ghost use Rattle.fault_words.specs.Pointing.{PointsAtFlaw};
 
 use crate::limit_faults::too_many;
 use crate::name_faults::{mark_of, name_taken, scope_of, unbound_name};

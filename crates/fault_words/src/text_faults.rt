@@ -1,7 +1,9 @@
 //! The faults of a text in words.
 ghost use Rattle.std.specs.Prelude.{◌≡◌, true, IfOk, option_map, string_bytes};
 ghost use Rattle.text_places.specs.Reading.{without_comments};
-ghost use Rattle.fault_words.specs.Pointing.{begins_anew, is_end, is_unended, may_lack_semicolon, BeginsBy, PointsAtFault, PointsAtToken, TellsOpenBlock};
+ghost use Rattle.fault_words.specs.Pointing.{begins_anew, is_end, is_unended, may_lack_semicolon};
+ghost use Rattle.fault_words.specs.Pointing.{BeginsBy, PointsAtFault, PointsAtToken};
+ghost use Rattle.fault_words.specs.Pointing.{TellsOpenBlock};
 
 use crate::expected::{listed_words, possible};
 use crate::open_blocks::open_words;

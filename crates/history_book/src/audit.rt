@@ -2,7 +2,9 @@
 
 ghost use Rattle.std.specs.Prelude.{◌≡◌, ◌<◌, ◌≤◌, [], length, IfOk, IfErr, OnOk, MatchOption};
 ghost use Rattle.prog_tree.specs.Tree.{draft_tree};
-ghost use Rattle.history_book.specs.Audit.{CameTo, audited, taken_up, CanBeginIn, IsRightIn, IsRowFaultIn, IsRowRefusal, AreRightBehind, IsAuditFault};
+ghost use Rattle.history_book.specs.Audit.{CameTo, audited, taken_up, CanBeginIn, IsRightIn};
+ghost use Rattle.history_book.specs.Audit.{IsRowFaultIn, IsRowRefusal, AreRightBehind};
+ghost use Rattle.history_book.specs.Audit.{IsAuditFault};
 ghost use Rattle.history_book.specs.View.{done_in, instance_of, most_endings, most_begins};
 
 use crate::book::{Book, is_ready, read_numbers};

@@ -1,17 +1,22 @@
 //! The book.
 
-ghost use Rattle.std.specs.Prelude.{◌≡◌, ◌≤◌, ℕ, false, List, Some, None, All, ◌↔◌, IsTrue, IfNone, IfSome, length, IfOk, IfErr, OnOk, OnErr, option_copied};
+ghost use Rattle.std.specs.Prelude.{◌≡◌, ◌≤◌, ℕ, false, List, Some, None, All, ◌↔◌, IsTrue, IfNone};
+ghost use Rattle.std.specs.Prelude.{IfSome, length, IfOk, IfErr, OnOk, OnErr, option_copied};
 ghost use Rattle.prog_tree.specs.Number.{IsI64};
 ghost use Rattle.prog_run.specs.View.{IsTrueRun};
 ghost use Rattle.history_book.specs.Orders.{IsCycle, least_order};
 ghost use Rattle.history_book.specs.Placing.{IsOrderFault};
 ghost use Rattle.history_book.specs.Reasons.{told_reason, IsReason};
-ghost use Rattle.history_book.specs.Refusals.{HasAborted, IsOfInstance, IsCommitFault, IsOwnCommitFault, IsEndFault, IsCellRead, IsRegionRead, IsWithdrawal};
+ghost use Rattle.history_book.specs.Refusals.{HasAborted, IsOfInstance, IsCommitFault};
+ghost use Rattle.history_book.specs.Refusals.{IsOwnCommitFault, IsEndFault, IsCellRead};
+ghost use Rattle.history_book.specs.Refusals.{IsRegionRead, IsWithdrawal};
 ghost use Rattle.history_book.specs.Runs.{IsCommitted, IsAborted};
 ghost use Rattle.history_book.specs.TrueBook.{IsTrueBook};
-ghost use Rattle.history_book.specs.View.{depends_in, traces_in, FitsBook};
-ghost use Rattle.history_book.specs.View.{state_in, new_book, nth_row, held_for, rows_for, commits_in, least_start, vacuumed, is_full, start_fault};
-ghost use Rattle.history_book.specs.View.{begin_fault_of, begin_at_fault_of, IsBeginRefusedBy, next_ticket, ticket_at, begun_in, begun_at};
+ghost use Rattle.history_book.specs.View.{depends_in, traces_in, FitsBook, state_in, new_book};
+ghost use Rattle.history_book.specs.View.{nth_row, held_for, rows_for, commits_in, least_start};
+ghost use Rattle.history_book.specs.View.{vacuumed, is_full, start_fault, begin_fault_of};
+ghost use Rattle.history_book.specs.View.{begin_at_fault_of, IsBeginRefusedBy, next_ticket};
+ghost use Rattle.history_book.specs.View.{ticket_at, begun_in, begun_at};
 ghost use Rattle.version_store.specs.Versions.{reclaimed};
 
 use crate::fault::{

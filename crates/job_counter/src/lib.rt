@@ -2,7 +2,8 @@
 //! A draw is one `fetch_add`: no lock, no wait. All calls but `open` take no memory.
 #![tactic(auto)]
 
-ghost use Rattle.std.specs.Prelude.{◌≡◌, ◌+◌, ◌-◌, ◌<◌, ◌≤◌, ◌++◌, ◌∷◌, ◌↔◌, [], length, IfOk, IfSome, IfNone, IsNone};
+ghost use Rattle.std.specs.Prelude.{◌≡◌, ◌+◌, ◌-◌, ◌<◌, ◌≤◌, ◌++◌, ◌∷◌, ◌↔◌, [], length, IfOk};
+ghost use Rattle.std.specs.Prelude.{IfSome, IfNone, IsNone};
 
 mod holding;
 
@@ -41,8 +42,10 @@ impl Pass {
 }
 
 impl Counter {
-    ghost use Rattle.job_counter.specs.Holdings.{AreDistinct, AreEachOnceBelow, IsInAccount, after_draw, holding};
-    ghost use Rattle.job_counter.specs.Passes.{counter_of, holding_of, left_of, numbers_of, name_of, budget_of};
+    ghost use Rattle.job_counter.specs.Holdings.{AreDistinct, AreEachOnceBelow, IsInAccount};
+    ghost use Rattle.job_counter.specs.Holdings.{after_draw, holding};
+    ghost use Rattle.job_counter.specs.Passes.{counter_of, holding_of, left_of, numbers_of};
+    ghost use Rattle.job_counter.specs.Passes.{name_of, budget_of};
 
     /// A counter, and the pass with the whole budget.
     pub fn open(alloc: Global, budget: u64) -> Result<(Counter, Pass), AllocError>

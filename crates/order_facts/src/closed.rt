@@ -1,8 +1,11 @@
 //! Facts, and what they entail.
 
-ghost use Rattle.std.specs.Prelude.{◌≡◌, ◌↔◌, ◌≤◌, List, false, length, IfOk, IfSome, IfNone, IsSome, IsNone, IsTrue};
+ghost use Rattle.std.specs.Prelude.{◌≡◌, ◌↔◌, ◌≤◌, List, false, length, IfOk, IfSome, IfNone};
+ghost use Rattle.std.specs.Prelude.{IsSome, IsNone, IsTrue};
 ghost use Rattle.order_facts.specs.declared.steps.Node.{Node};
-ghost use Rattle.order_facts.specs.Chain.{Entails, ForcesEqual, IsConsistent, IsValuationOfI64, Meets, HasContradiction, IsChain, IsTight, IsStep, RunsBetween};
+ghost use Rattle.order_facts.specs.Chain.{Entails, ForcesEqual, IsConsistent, IsValuationOfI64};
+ghost use Rattle.order_facts.specs.Chain.{Meets, HasContradiction, IsChain, IsTight, IsStep};
+ghost use Rattle.order_facts.specs.Chain.{RunsBetween};
 ghost use Rattle.order_facts.specs.Sample.{sample_number, valuation_of, IsSampled};
 
 use crate::matrix::matrix_of;

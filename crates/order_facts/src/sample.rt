@@ -1,6 +1,7 @@
 //! A valuation that meets the facts, each node as near to 0 as it can be.
 
-ghost use Rattle.std.specs.Prelude.{◌≡◌, ◌↔◌, ◌≤◌, ℤ, ◌≤ℤ◌, ℕ, ◌<◌, length, true, false, All, IfOk, OnOk, IsTrue};
+ghost use Rattle.std.specs.Prelude.{◌≡◌, ◌↔◌, ◌≤◌, ℤ, ◌≤ℤ◌, ℕ, ◌<◌, length, true, false, All, IfOk};
+ghost use Rattle.std.specs.Prelude.{OnOk, IsTrue};
 ghost use Rattle.order_facts.specs.declared.steps.Node.{Node};
 ghost use Rattle.order_facts.specs.declared.steps.Node.TheVariants.{Number};
 ghost use Rattle.order_facts.specs.Chain.{IsConsistent, IsValuationOfI64, Meets};

@@ -1,11 +1,13 @@
 //! The search for a chain with the fewest nodes: backward from its end, level by level.
 
-ghost use Rattle.std.specs.Prelude.{◌≡◌, ◌↔◌, ℕ, List, ◌<◌, ◌≤◌, ◌+◌, ◌++◌, ◌∷◌, [], true, length, take, IfOk, OnOk, IfSome, IfNone, IsTrue};
+ghost use Rattle.std.specs.Prelude.{◌≡◌, ◌↔◌, ℕ, List, ◌<◌, ◌≤◌, ◌+◌, ◌++◌, ◌∷◌, [], true, length};
+ghost use Rattle.std.specs.Prelude.{take, IfOk, OnOk, IfSome, IfNone, IsTrue};
 ghost use Rattle.order_facts.specs.declared.steps.Node.{Node};
 ghost use Rattle.order_facts.specs.declared.steps.Fact.{Fact};
 ghost use Rattle.order_facts.specs.Chain.{IsStep, IsChain, RunsBetween};
 ghost use Rattle.order_facts.specs.Reaches.{reaches};
-ghost use Rattle.order_facts.specs.Search.{reached_at, HasReached, IsDescending, IsTrail, Adds, Spreads};
+ghost use Rattle.order_facts.specs.Search.{reached_at, HasReached, IsDescending, IsTrail, Adds};
+ghost use Rattle.order_facts.specs.Search.{Spreads};
 
 use crate::steps::{Fact, Node, is_same, is_step};
 use std::alloc::{AllocError, Global};

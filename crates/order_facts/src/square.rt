@@ -2,7 +2,8 @@
 
 ghost use Rattle.std.specs.Prelude.{◌≡◌, ◌≢◌, ℕ, ◌+◌, ◌^◌, ◌<◌, ◌≤◌, length, IfOk, IfSome, IfNone};
 ghost use Rattle.std.specs.Int.{bit_at};
-ghost use Rattle.order_facts.specs.Square.{entry, Joins, IsEmptySquare, RaisesEntry, JoinsRow, JoinsThrough};
+ghost use Rattle.order_facts.specs.Square.{entry, Joins, IsEmptySquare, RaisesEntry, JoinsRow};
+ghost use Rattle.order_facts.specs.Square.{JoinsThrough};
 ghost use Rattle.order_facts.specs.Words.{JoinsWords, IsNextBit, IsNextJoined};
 
 use std::alloc::{AllocError, Global};

@@ -1,13 +1,17 @@
 //! The check of a program's statements.
-ghost use Rattle.std.specs.Prelude.{◌≡◌, ℕ, ◌+◌, ◌<◌, ◌++◌, false, OnOk, OnErr, length, option_copied, Option, Some, None};
+ghost use Rattle.std.specs.Prelude.{◌≡◌, ℕ, ◌+◌, ◌<◌, ◌++◌, false, OnOk, OnErr, length};
+ghost use Rattle.std.specs.Prelude.{option_copied, Option, Some, None};
 ghost use Rattle.std.specs.Option.{option_map};
 ghost use Rattle.prog_tree.specs.Tree.{listing_tree, stmt_tree, with_stmt, block_tree};
-ghost use Rattle.prog_check.specs.Faults.{first_broken, place_rules, table_use_rules, value_use_rules, new_name_rules, inner_name_rules, statement_rules, block_fault, ◌or_else◌};
+ghost use Rattle.prog_check.specs.Faults.{first_broken, place_rules, table_use_rules};
+ghost use Rattle.prog_check.specs.Faults.{value_use_rules, new_name_rules, inner_name_rules};
+ghost use Rattle.prog_check.specs.Faults.{statement_rules, block_fault, ◌or_else◌};
 ghost use Rattle.prog_check.specs.declared.fault.Place.TheVariants as Place;
 ghost use Rattle.prog_check.specs.Names.{Extends};
 ghost use Rattle.prog_check.specs.Paths.{statement_count};
 ghost use Rattle.prog_check.specs.Sets.{Finds, ChecksOn};
-ghost use Rattle.prog_check.specs.Uses.{used_table_by, overwrites_by, used_names_by, new_name_by, with_new, with_inner};
+ghost use Rattle.prog_check.specs.Uses.{used_table_by, overwrites_by, used_names_by, new_name_by};
+ghost use Rattle.prog_check.specs.Uses.{with_new, with_inner};
 
 use crate::fault::{CheckFault, Place};
 use crate::limits::MAX_STATEMENTS;

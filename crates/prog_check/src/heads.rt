@@ -2,7 +2,8 @@
 ghost use Rattle.std.specs.Prelude.{◌≡◌, [], ◌∷◌, ◌++◌, map, OnOk};
 ghost use Rattle.prog_tree.specs.Tree.{program_tree};
 ghost use Rattle.prog_check.specs.declared.fault.CheckFault.TheVariants.{DuplicateParameter};
-ghost use Rattle.prog_check.specs.Faults.{first_broken, program_rules, tables_fault, program_fault, programs_fault};
+ghost use Rattle.prog_check.specs.Faults.{first_broken, program_rules, tables_fault, program_fault};
+ghost use Rattle.prog_check.specs.Faults.{programs_fault};
 ghost use Rattle.prog_check.specs.Names.{has_twice};
 ghost use Rattle.prog_check.specs.Sets.{Finds};
 

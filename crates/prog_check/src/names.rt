@@ -1,7 +1,8 @@
 //! Names, each once.
 
 ghost use Rattle.std.specs.List.{position};
-ghost use Rattle.std.specs.Prelude.{◌≡◌, [], ◌∷◌, ◌++◌, not, length, take, string_bytes, IfOk, if◌then◌else◌};
+ghost use Rattle.std.specs.Prelude.{◌≡◌, [], ◌∷◌, ◌++◌, not, length, take, string_bytes, IfOk};
+ghost use Rattle.std.specs.Prelude.{if◌then◌else◌};
 ghost use Rattle.prog_tree.specs.Value.{same_name};
 ghost use Rattle.prog_check.specs.Names.{is_among, place_among};
 

@@ -1,5 +1,6 @@
 //! Where a run stands in its program.
-ghost use Rattle.std.specs.Prelude.{◌≡◌, true, [], ◌∷◌, ◌++◌, length, IfOk, OnOk, OnErr, if◌then◌else◌};
+ghost use Rattle.std.specs.Prelude.{◌≡◌, true, [], ◌∷◌, ◌++◌, length, IfOk, OnOk, OnErr};
+ghost use Rattle.std.specs.Prelude.{if◌then◌else◌};
 ghost use Rattle.prog_tree.specs.Tree.{listing_tree, block_tree, stmts_tree};
 ghost use Rattle.prog_run.specs.Todo.{inside};
 ghost use Rattle.prog_run.specs.Cursor.{open_tree, cursor_tree, is_store, KeepsStore, SameTodo};

@@ -1,14 +1,13 @@
 //! Runs of programs.
-ghost use Rattle.std.specs.Prelude.{◌≡◌, ◌<◌, Some, None, IfOk, IfSome, OnErr};
-ghost use Rattle.std.specs.Prelude.{length, zip, slice_get, option_copied};
+ghost use Rattle.std.specs.Prelude.{◌≡◌, ◌<◌, Some, None, IfOk, IfSome, OnErr, length, zip};
+ghost use Rattle.std.specs.Prelude.{slice_get, option_copied};
 ghost use Rattle.prog_tree.specs.Table.{TableState, rows_in};
 ghost use Rattle.prog_run.specs.Cursor.{BeginsWith};
 ghost use Rattle.prog_run.specs.Looks.{AreFound, IsFoundLast};
-ghost use Rattle.prog_run.specs.View.{IsTrueRun, IsAdvance, SameBegin, begun};
-ghost use Rattle.prog_run.specs.View.{IsHeldAnswered, IsRowsAnswered, AsksUnchanged};
-ghost use Rattle.prog_run.specs.View.{IsRefusedBy, IsRunRefusedBy};
-ghost use Rattle.prog_run.specs.View.{begin_fault, get_fault, scan_fault};
-ghost use Rattle.prog_run.specs.View.{asked_cell, asked_region, standing_next};
+ghost use Rattle.prog_run.specs.View.{IsTrueRun, IsAdvance, SameBegin, begun, IsHeldAnswered};
+ghost use Rattle.prog_run.specs.View.{IsRowsAnswered, AsksUnchanged, IsRefusedBy, IsRunRefusedBy};
+ghost use Rattle.prog_run.specs.View.{begin_fault, get_fault, scan_fault, asked_cell, asked_region};
+ghost use Rattle.prog_run.specs.View.{standing_next};
 
 use crate::block::OpenBlock;
 use crate::cursor::Cursor;

@@ -2,9 +2,8 @@
 ghost use Rattle.std.specs.Prelude.{◌≡◌, IfOk, OnOk, OnErr};
 ghost use Rattle.prog_tree.specs.Steps.{did};
 ghost use Rattle.prog_tree.specs.Tree.{expr_tree};
-ghost use Rattle.prog_run.specs.Task.{Counts, Sums, cell_use_tree, task_tree};
-ghost use Rattle.prog_run.specs.Task.{get_flow, need_flow, lacks_flow, insert_flow};
-ghost use Rattle.prog_run.specs.Task.{use_flow, rows_flow};
+ghost use Rattle.prog_run.specs.Task.{Counts, Sums, cell_use_tree, task_tree, get_flow, need_flow};
+ghost use Rattle.prog_run.specs.Task.{lacks_flow, insert_flow, use_flow, rows_flow};
 ghost use Rattle.prog_run.specs.Statement.{written_by, IsFlow, IsBegun, IsCellAnswered};
 
 use crate::next::Step;

@@ -5,9 +5,8 @@ ghost use Rattle.prog_tree.specs.Evaluation.{cell_of};
 ghost use Rattle.prog_tree.specs.Tree.{key_tree, range_tree, stmt_tree};
 ghost use Rattle.prog_run.specs.Cursor.{is_store_stmt};
 ghost use Rattle.prog_run.specs.Looks.{question_of};
-ghost use Rattle.prog_run.specs.Task.{AskedTree, TaskTree, asked_tree, task_tree};
-ghost use Rattle.prog_run.specs.Task.{cell_use_tree, region_use_tree};
-ghost use Rattle.prog_run.specs.Task.{task_at, task_in, task_of_stmt};
+ghost use Rattle.prog_run.specs.Task.{AskedTree, TaskTree, asked_tree, task_tree, cell_use_tree};
+ghost use Rattle.prog_run.specs.Task.{region_use_tree, task_at, task_in, task_of_stmt};
 ghost use Rattle.prog_run.specs.Step.{next_asking};
 ghost use Rattle.prog_run.specs.View.{asked_region};
 

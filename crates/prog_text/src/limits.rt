@@ -1,7 +1,8 @@
 //! How much there may be.
 
 ghost use Rattle.std.specs.Prelude.{◌≡◌, ℕ, ◌+◌, ◌<◌, ◌≤◌};
-ghost use Rattle.prog_text.specs.Limits.{bracket_limit, operator_limit, brackets_after, operators_after, too_deep};
+ghost use Rattle.prog_text.specs.Limits.{bracket_limit, operator_limit, brackets_after};
+ghost use Rattle.prog_text.specs.Limits.{operators_after, too_deep};
 
 use crate::lexing::token::{Sign, Token};
 

@@ -1,9 +1,11 @@
 //! From the bytes of a text to a draft.
 
-ghost use Rattle.std.specs.Prelude.{◌≡◌, ℕ, ◌<◌, ◌≤◌, List, length, IfOk, IfErr, MatchResult, Ok, Err};
+ghost use Rattle.std.specs.Prelude.{◌≡◌, ℕ, ◌<◌, ◌≤◌, List, length, IfOk, IfErr, MatchResult, Ok};
+ghost use Rattle.std.specs.Prelude.{Err};
 ghost use Rattle.prog_tree.specs.Syntax.{DraftTree};
 ghost use Rattle.prog_tree.specs.Tree.{draft_tree};
-ghost use Rattle.prog_text.specs.Answer.{HasTokens, IsShallow, Accepts, IsFlawed, Refuses, place_of};
+ghost use Rattle.prog_text.specs.Answer.{HasTokens, IsShallow, Accepts, IsFlawed, Refuses};
+ghost use Rattle.prog_text.specs.Answer.{place_of};
 ghost use Rattle.prog_text.specs.Limits.{text_limit};
 ghost use Rattle.prog_text.specs.Grammar.{IsSet};
 ghost use Rattle.prog_text.specs.Lexing.{kinds};

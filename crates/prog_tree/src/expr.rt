@@ -1,7 +1,8 @@
 //! Expressions and tests, and what they come to.
 
 ghost use Rattle.std.specs.Prelude.{◌≡◌, ◌↔◌, IfOk, IsTrue, map};
-ghost use Rattle.prog_tree.specs.Tree.{expr_tree, relation_sign, comparison_tree, clause_tree, test_tree};
+ghost use Rattle.prog_tree.specs.Tree.{expr_tree, relation_sign, comparison_tree, clause_tree};
+ghost use Rattle.prog_tree.specs.Tree.{test_tree};
 ghost use Rattle.prog_tree.specs.Value.{value_of, relates, comparison_holds, all_hold, holds_of};
 
 use crate::env::Env;

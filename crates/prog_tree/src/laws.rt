@@ -9,7 +9,8 @@ ghost use Rattle.prog_tree.specs.Literals.{HasI64Literals};
 ghost use Rattle.prog_tree.specs.LookedAt.{has_looked};
 ghost use Rattle.prog_tree.specs.Number.{IsI64, is_i64};
 ghost use Rattle.prog_tree.specs.Syntax.{ProgramTree};
-ghost use Rattle.prog_tree.specs.Table.{IsI64Cell, TableState, IsTableState, HasI64Rows, row_at, with_row, without_row};
+ghost use Rattle.prog_tree.specs.Table.{IsI64Cell, TableState, IsTableState, HasI64Rows, row_at};
+ghost use Rattle.prog_tree.specs.Table.{with_row, without_row};
 
 /// On two states that have the same at each cell that a program looks at, it does the same.
 #[tactic(auto, using(crate::proofs::LookLaws::by_looks))]

@@ -1,6 +1,7 @@
 //! The entries of a certificate. There are many, and few different reasons, so entries may share
 //! one.
-ghost use Rattle.std.specs.Prelude.{◌≡◌, ◌<◌, ◌↔◌, [], ◌∷◌, ◌++◌, All, IsTrue, OnOk, OnErr, Some, length, slice_get};
+ghost use Rattle.std.specs.Prelude.{◌≡◌, ◌<◌, ◌↔◌, [], ◌∷◌, ◌++◌, All, IsTrue, OnOk, OnErr, Some};
+ghost use Rattle.std.specs.Prelude.{length, slice_get};
 ghost use Rattle.robust_cert.specs.Sharing.{Entry, entry_with, entries_told, HasReason};
 
 use crate::certificate::EntryQuestion;

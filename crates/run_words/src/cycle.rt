@@ -1,7 +1,8 @@
 //! The cycle that the commits of a book form, in words.
 ghost use Rattle.std.specs.Prelude.{◌≡◌, ◌++◌, IfOk, OnOk, option_copied, string_bytes};
 ghost use Rattle.prog_tree.specs.Tree.{draft_tree};
-ghost use Rattle.run_words.specs.Cycles.{ahead_text, behind_text, call_or_none, call_text, commit_line, cycle_text, first_or, line_text, lines_text};
+ghost use Rattle.run_words.specs.Cycles.{ahead_text, behind_text, call_or_none, call_text};
+ghost use Rattle.run_words.specs.Cycles.{commit_line, cycle_text, first_or, line_text, lines_text};
 
 use fault_words::{cell_text, program_name, region_text};
 use history_book::{Book, HistoryRow, Reason};

@@ -1,7 +1,9 @@
 //! Why a job did not commit, in words.
 ghost use Rattle.std.specs.Prelude.{◌≡◌, IfOk, slice_get, string_bytes, take};
 ghost use Rattle.prog_tree.specs.Tree.{draft_tree};
-ghost use Rattle.run_words.specs.JobSentences.{argument_text, arguments_text, named_call_text, clash_text, further_arguments, reason_of, sentence_of, tries_text, IsJobSentence};
+ghost use Rattle.run_words.specs.JobSentences.{argument_text, arguments_text, named_call_text};
+ghost use Rattle.run_words.specs.JobSentences.{clash_text, further_arguments, reason_of};
+ghost use Rattle.run_words.specs.JobSentences.{sentence_of, tries_text, IsJobSentence};
 ghost use Rattle.run_words.specs.Limits.{most_arguments};
 
 use crate::begin_reasons::begin_reason;

@@ -1,10 +1,13 @@
 //! The jobs that did not commit, in words.
-ghost use Rattle.std.specs.Prelude.{◌≡◌, ◌++◌, [], ◌∷◌, List, ℕ, IfNone, IfOk, IfSome, OnOk, slice_get, string_bytes, take, if◌then◌else◌};
+ghost use Rattle.std.specs.Prelude.{◌≡◌, ◌++◌, [], ◌∷◌, List, ℕ, IfNone, IfOk, IfSome, OnOk};
+ghost use Rattle.std.specs.Prelude.{slice_get, string_bytes, take, if◌then◌else◌};
 ghost use Rattle.prog_tree.specs.Tree.{draft_tree};
 ghost use Rattle.text_places.specs.Landmarks.{HasNoJob, IsJobPlace};
 ghost use Rattle.run_words.specs.EachLine.{TellsEach};
 ghost use Rattle.run_words.specs.Limits.{most_told};
-ghost use Rattle.run_words.specs.LostJobs.{is_lost_by, more_text, numbers_lost, place_text, IsJobLine, IsJobText, TellsJobIn, TellsLosses, TellsLost};
+ghost use Rattle.run_words.specs.LostJobs.{is_lost_by, more_text, numbers_lost, place_text};
+ghost use Rattle.run_words.specs.LostJobs.{IsJobLine, IsJobText, TellsJobIn, TellsLosses};
+ghost use Rattle.run_words.specs.LostJobs.{TellsLost};
 
 use crate::in_input::{Part, input_line_text};
 use crate::job_reasons::job_sentence;

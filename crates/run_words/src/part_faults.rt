@@ -1,7 +1,8 @@
 //! What is wrong with the parts of an input, in words.
 ghost use Rattle.std.specs.Prelude.{◌≡◌, ◌<◌, IfNone, IfOk, IfSome, length, string_bytes};
 ghost use Rattle.fault_words.specs.Pointing.{PointsAt};
-ghost use Rattle.run_words.specs.PartPointing.{begins_separator, is_separator_at, HasNoSeparator, IsLastSeparator, PointsAtSeparator};
+ghost use Rattle.run_words.specs.PartPointing.{begins_separator, is_separator_at, HasNoSeparator};
+ghost use Rattle.run_words.specs.PartPointing.{IsLastSeparator, PointsAtSeparator};
 
 use fault_words::point_at;
 use std::alloc::{AllocError, Global};

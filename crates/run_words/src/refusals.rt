@@ -1,6 +1,11 @@
 //! Which lines of a script do nothing, as its run goes.
-ghost use Rattle.std.specs.Prelude.{◌≡◌, ◌≢◌, ◌<◌, ◌↔◌, ◌⊎◌, [], true, false, None, IfSome, IsOk, IsTrue, OnOk, length, slice_get, vec_len};
-ghost use Rattle.run_words.specs.ToldLines.{does_nothing, is_lost, is_of_none, is_refusal, names_no_instance, refuses, refuses_begin, refuses_instance, refuses_number, told_lines, CountsOneMore, FollowsNoMore, IsOneMore, TellsNoMore, TellsNothing, TellsOneMore};
+ghost use Rattle.std.specs.Prelude.{◌≡◌, ◌≢◌, ◌<◌, ◌↔◌, ◌⊎◌, [], true, false, None, IfSome, IsOk};
+ghost use Rattle.std.specs.Prelude.{IsTrue, OnOk, length, slice_get, vec_len};
+ghost use Rattle.run_words.specs.ToldLines.{does_nothing, is_lost, is_of_none, is_refusal};
+ghost use Rattle.run_words.specs.ToldLines.{names_no_instance, refuses, refuses_begin};
+ghost use Rattle.run_words.specs.ToldLines.{refuses_instance, refuses_number, told_lines};
+ghost use Rattle.run_words.specs.ToldLines.{CountsOneMore, FollowsNoMore, IsOneMore, TellsNoMore};
+ghost use Rattle.run_words.specs.ToldLines.{TellsNothing, TellsOneMore};
 
 use crate::begin_numbers::{Numbers, Vacuums};
 use crate::event_lines::EventLines;

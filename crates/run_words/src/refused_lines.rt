@@ -1,9 +1,11 @@
 //! The lines of a script that do nothing, in words.
-ghost use Rattle.std.specs.Prelude.{◌≡◌, ◌++◌, List, ℕ, Some, IfNone, IfOk, IfSome, OnOk, drop, string_bytes};
+ghost use Rattle.std.specs.Prelude.{◌≡◌, ◌++◌, List, ℕ, Some, IfNone, IfOk, IfSome, OnOk, drop};
+ghost use Rattle.std.specs.Prelude.{string_bytes};
 ghost use Rattle.text_places.specs.Places.{HasNoLine};
 ghost use Rattle.run_words.specs.EachLine.{TellsEach};
 ghost use Rattle.run_words.specs.PartPointing.{HasNoLineOf, PointsAtLineIn};
-ghost use Rattle.run_words.specs.ToldLines.{first_told, following_text, further_text, TellsLine, TellsRefused};
+ghost use Rattle.run_words.specs.ToldLines.{first_told, following_text, further_text, TellsLine};
+ghost use Rattle.run_words.specs.ToldLines.{TellsRefused};
 
 use crate::begin_numbers::number_words;
 use crate::begin_reasons::{full_words, wrong_arguments};

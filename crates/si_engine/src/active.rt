@@ -6,7 +6,8 @@ ghost use Rattle.history_book.specs.Refusals.{HasAborted};
 ghost use Rattle.history_book.specs.Runs.{IsAborted, withdrawn_in};
 ghost use Rattle.history_book.specs.View.{done_in};
 ghost use Rattle.si_engine.specs.Machine.{stepped};
-ghost use Rattle.si_engine.specs.View.{active_in, instance_in, IsActive, IsAfterStep, IsCommitReply};
+ghost use Rattle.si_engine.specs.View.{active_in, instance_in, IsActive, IsAfterStep};
+ghost use Rattle.si_engine.specs.View.{IsCommitReply};
 
 use crate::event::Reply;
 use history_book::{Book, OwnCommitFault, Ticket};

@@ -1,6 +1,7 @@
 //! The engine: instances over a book, moved by events.
 
-ghost use Rattle.std.specs.Prelude.{◌≡◌, length, Some, None, Ok, IfOk, IfErr, OnOk, OnErr, slice_get, slice_set};
+ghost use Rattle.std.specs.Prelude.{◌≡◌, length, Some, None, Ok, IfOk, IfErr, OnOk, OnErr};
+ghost use Rattle.std.specs.Prelude.{slice_get, slice_set};
 ghost use Rattle.prog_tree.specs.Tree.{draft_tree};
 ghost use Rattle.prog_run.specs.View.{begin_fault, begun};
 ghost use Rattle.history_book.specs.History.{state_after};

@@ -1,9 +1,11 @@
 //! Runs of scripts: from the bytes of a script to the lines of its replies, its rows and the end.
-ghost use Rattle.std.specs.Prelude.{◌≡◌, ◌≤◌, ◌+◌, [], false, true, string_bytes, IfOk, OnOk, OnErr};
+ghost use Rattle.std.specs.Prelude.{◌≡◌, ◌≤◌, ◌+◌, [], false, true, string_bytes, IfOk, OnOk};
+ghost use Rattle.std.specs.Prelude.{OnErr};
 ghost use Rattle.prog_tree.specs.Tree.{draft_tree};
 ghost use Rattle.si_engine.specs.Machine.{machine_after};
 ghost use Rattle.si_engine.specs.Sources.{ForInput};
-ghost use Rattle.si_engine.specs.Runs.{event_lines, run_lines, AddsLines, AddsFirst, AddsRun, IsRunOf, IsScriptRun, IsUnreadRun};
+ghost use Rattle.si_engine.specs.Runs.{event_lines, run_lines, AddsLines, AddsFirst, AddsRun};
+ghost use Rattle.si_engine.specs.Runs.{IsRunOf, IsScriptRun, IsUnreadRun};
 ghost use Rattle.si_engine.specs.View.{StaysOver};
 
 use crate::engine::Engine;

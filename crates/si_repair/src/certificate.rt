@@ -1,12 +1,14 @@
 //! The certificate of a table whose graph has no dangerous structure.
-ghost use Rattle.std.specs.Prelude.{◌≡◌, ◌<◌, ◌≤◌, ◌+◌, ◌++◌, List, map, All, IfOk, vec_len, vec_capacity};
+ghost use Rattle.std.specs.Prelude.{◌≡◌, ◌<◌, ◌≤◌, ◌+◌, ◌++◌, List, map, All, IfOk, vec_len};
+ghost use Rattle.std.specs.Prelude.{vec_capacity};
 ghost use Rattle.prog_check.specs.declared.path.Path.{Path};
 ghost use Rattle.prog_paths.specs.Few.{AreFew};
 ghost use Rattle.conflict_pairs.specs.Table.{StandsFor};
 ghost use Rattle.robust_cert.specs.Accepted.{body_size};
 ghost use Rattle.robust_cert.specs.Ranges.{IsSmall};
 ghost use Rattle.robust_cert.specs.Sharing.{entries_told, HasReason};
-ghost use Rattle.si_repair.specs.Certificates.{told_question, told_of, told_numbered, AreGiven, AreLevels, IsOfFew, AskedFits};
+ghost use Rattle.si_repair.specs.Certificates.{told_question, told_of, told_numbered, AreGiven};
+ghost use Rattle.si_repair.specs.Certificates.{AreLevels, IsOfFew, AskedFits};
 
 use crate::reasons::reasons_of;
 use conflict_pairs::{Interned, PairTable, Question, Verdict};

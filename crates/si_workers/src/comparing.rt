@@ -3,7 +3,11 @@
 ghost use Rattle.std.specs.Prelude.{◌≡◌, ◌↔◌, All, IsTrue, IfOk, IfNone, IfSome};
 ghost use Rattle.si_workers.specs.Assigned.{assigned_by};
 ghost use Rattle.si_workers.specs.Calls.{call_of};
-ghost use Rattle.si_workers.specs.Outcomes.{AreAsMany, AreClashesTold, AreCommitsTold, AreRightTries, Correspond, IsAllOfJobs, IsBroken, IsClashTold, IsCommitOf, IsFirstFallen, IsNamedOnce, IsOfSomeJob, IsOver, IsRecordOf, IsRightEnd, IsRightRefusal, Stands, nearly_full};
+ghost use Rattle.si_workers.specs.Outcomes.{AreAsMany, AreClashesTold, AreCommitsTold};
+ghost use Rattle.si_workers.specs.Outcomes.{AreRightTries, Correspond, IsAllOfJobs, IsBroken};
+ghost use Rattle.si_workers.specs.Outcomes.{IsClashTold, IsCommitOf, IsFirstFallen, IsNamedOnce};
+ghost use Rattle.si_workers.specs.Outcomes.{IsOfSomeJob, IsOver, IsRecordOf, IsRightEnd};
+ghost use Rattle.si_workers.specs.Outcomes.{IsRightRefusal, Stands, nearly_full};
 
 use crate::assignment::Assignment;
 use crate::counts::Counts;

@@ -33,7 +33,8 @@ impl<'c> Model for Counts<'c> {
     ghost use Rattle.si_workers.specs.Counts.{Counted};
     ghost use Rattle.si_workers.specs.KeptAndTold.{aborts_kept, aborts_told, clashes_kept};
     ghost use Rattle.si_workers.specs.KeptAndTold.{clashes_on, clashes_told, commits_told};
-    ghost use Rattle.si_workers.specs.Keys.{abort_cmp, call_at, call_cmp, cause_at, clash_at, clash_cmp};
+    ghost use Rattle.si_workers.specs.Keys.{abort_cmp, call_at, call_cmp, cause_at, clash_at};
+    ghost use Rattle.si_workers.specs.Keys.{clash_cmp};
     ghost use Rattle.si_workers.specs.Tally.{Tallies, most};
 
     ghost Value = { Counted };

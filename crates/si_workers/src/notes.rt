@@ -1,7 +1,8 @@
 //! What an ending of a book, and what is told of a job, note in tallies.
 
 ghost use Rattle.std.specs.Prelude.{if◌then◌else◌};
-ghost use Rattle.si_workers.specs.KeptAndTold.{clashes_of, is_abort, is_clash_of, is_clash_on, names, tells_abort};
+ghost use Rattle.si_workers.specs.KeptAndTold.{clashes_of, is_abort, is_clash_of, is_clash_on};
+ghost use Rattle.si_workers.specs.KeptAndTold.{names, tells_abort};
 ghost use Rattle.si_workers.specs.Keys.{call_at, cause_at, clash_at};
 
 use crate::job::JobEnd;

@@ -7,7 +7,8 @@ ghost use Rattle.prog_paths.specs.StaticGraph.{IsDangerous};
 ghost use Rattle.history_book.specs.TrueBook.{IsTrueBook};
 ghost use Rattle.si_workers.specs.Assigned.{assigned, assigned_by};
 ghost use Rattle.si_workers.specs.Outcomes.{OutcomesCorrespond};
-ghost use Rattle.si_workers.specs.Settled.{AreOutcomesIn, IsCompared, IsConcluded, IsHandedOut, IsOrderOf, IsSettled, IsWorkCompared, lack_memory};
+ghost use Rattle.si_workers.specs.Settled.{AreOutcomesIn, IsCompared, IsConcluded, IsHandedOut};
+ghost use Rattle.si_workers.specs.Settled.{IsOrderOf, IsSettled, IsWorkCompared, lack_memory};
 ghost use Rattle.si_workers.specs.Work.{AreTaken, IsWorkFault, jobs_by, outcome_at};
 
 use crate::assignment::Assignment;

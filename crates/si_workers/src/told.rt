@@ -1,6 +1,7 @@
 //! What workers tell of jobs.
 
-ghost use Rattle.std.specs.Prelude.{◌≡◌, ◌<◌, ◌∷◌, [], length, IfOk, Some, None, map, flat_map, option_copied};
+ghost use Rattle.std.specs.Prelude.{◌≡◌, ◌<◌, ◌∷◌, [], length, IfOk, Some, None, map, flat_map};
+ghost use Rattle.std.specs.Prelude.{option_copied};
 ghost use Rattle.si_workers.specs.declared.told.Told.TheVariants.{Nothing};
 ghost use Rattle.si_workers.specs.Gathered.{outcome_in, with_one, AreToldMore};
 ghost use Rattle.si_workers.specs.Told.{AreTold};

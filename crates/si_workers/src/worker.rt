@@ -5,7 +5,8 @@ ghost use Rattle.prog_tree.specs.declared.deed.End.TheVariants.{Ready};
 ghost use Rattle.job_counter.specs.Passes.{counter_of, name_of, numbers_of};
 ghost use Rattle.si_workers.specs.Ended.{ended_by_try};
 ghost use Rattle.si_workers.specs.LastAnswer.{IsLastAnswer};
-ghost use Rattle.si_workers.specs.Work.{AreDrawn, HasCause, HasReplies, IsDrawn, IsReported, TellsTries};
+ghost use Rattle.si_workers.specs.Work.{AreDrawn, HasCause, HasReplies, IsDrawn, IsReported};
+ghost use Rattle.si_workers.specs.Work.{TellsTries};
 
 use crate::desk::Desk;
 use crate::job::{Job, JobEnd, JobOutcome};

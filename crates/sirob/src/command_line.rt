@@ -1,8 +1,10 @@
 //! The command line.
 ghost use Rattle.std.specs.Prelude.{◌≡◌, false, IfOk, [], ◌∷◌, map, option_map, string_bytes};
-ghost use Rattle.clap.specs.Words.{app_of, shape_of, rows_of, rule_of, found_of, with_subcommand, subcommand_of, subcommand_rows_of, fault_of, FailsBy};
+ghost use Rattle.clap.specs.Words.{app_of, shape_of, rows_of, rule_of, found_of, with_subcommand};
+ghost use Rattle.clap.specs.Words.{subcommand_of, subcommand_rows_of, fault_of, FailsBy};
 ghost use Rattle.clap.specs.declared.builder.command.Command.TheViews.{out-Command as fields_of};
-ghost use Rattle.sirob.specs.CommandLine.{sirob_app, top_app, command_with, flag_rule, byte_rule, is_true, has_flag, byte_of, IsNamedBy, NamesMode};
+ghost use Rattle.sirob.specs.CommandLine.{sirob_app, top_app, command_with, flag_rule, byte_rule};
+ghost use Rattle.sirob.specs.CommandLine.{is_true, has_flag, byte_of, IsNamedBy, NamesMode};
 
 use clap::{Arg, ArgAction, ArgMatches, Command, Error, value_parser};
 use std::alloc::{AllocError, Global};

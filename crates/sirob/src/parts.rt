@@ -1,5 +1,7 @@
 //! The parts of the input.
-ghost use Rattle.std.specs.Prelude.{◌≡◌, ◌<◌, ◌≤◌, ◌+◌, ◌↔◌, false, [], ◌∷◌, IsOk, IfOk, IfErr, IsErrOf, IfSome, IfNone, MatchOption, ℕ, ◌≢◌, length, slice_index, take, drop};
+ghost use Rattle.std.specs.Prelude.{◌≡◌, ◌<◌, ◌≤◌, ◌+◌, ◌↔◌, false, [], ◌∷◌, IsOk, IfOk, IfErr};
+ghost use Rattle.std.specs.Prelude.{IsErrOf, IfSome, IfNone, MatchOption, ℕ, ◌≢◌, length};
+ghost use Rattle.std.specs.Prelude.{slice_index, take, drop};
 ghost use Rattle.sirob.specs.Parts.{full_lines_of, parts_of};
 
 use memchr::memchr;

@@ -1,7 +1,8 @@
 //! Where the tables, programs and statements of a set's text begin, and the records or the jobs of
 //! a list. A statement's first word stands nowhere else.
 ghost use Rattle.std.specs.Prelude.{◌≡◌, ◌≤◌, ◌&&◌, bytes_eq, drop, IfNone, IfSome};
-ghost use Rattle.text_places.specs.Landmarks.{begun_at, is_landmark, HasFewer, HasNoRecord, IsNumbered, IsRecordPlace};
+ghost use Rattle.text_places.specs.Landmarks.{begun_at, is_landmark, HasFewer, HasNoRecord};
+ghost use Rattle.text_places.specs.Landmarks.{IsNumbered, IsRecordPlace};
 ghost use Rattle.text_places.specs.Places.{begins_line};
 ghost use Rattle.text_places.specs.Reading.{short_word};
 ghost use Rattle.text_places.specs.declared.landmark.Landmark.TheVariants.{Job};

@@ -1,7 +1,9 @@
 //! The line and the column of a place. A place behind the end of a text stands for its end.
 ghost use Rattle.std.specs.Prelude.{◌≡◌, ◌≤◌, count_by, drop, length, take, IfNone, IfSome};
 ghost use Rattle.std.specs.List.{before_first, list_all};
-ghost use Rattle.text_places.specs.Places.{begins_line, column, ends_line, inset, is_feed, is_indent, line_at, line_number, line_start, HasNoLine, IsLineFront};
+ghost use Rattle.text_places.specs.Places.{begins_line, column, ends_line, inset, is_feed};
+ghost use Rattle.text_places.specs.Places.{is_indent, line_at, line_number, line_start, HasNoLine};
+ghost use Rattle.text_places.specs.Places.{IsLineFront};
 
 use crate::byte_kind::{ByteKind, first_count, last_count};
 

@@ -2,7 +2,9 @@
 ghost use Rattle.std.specs.Prelude.{◌≡◌, ◌≤◌, length, IfOk};
 ghost use Rattle.std.specs.List.{prefix_len};
 ghost use Rattle.prog_text.specs.Lexing.{is_word_byte};
-ghost use Rattle.text_places.specs.Reading.{before_blanks, begins_word, behind_blanks, behind_word, first_word, is_in_comment, last_end, last_word, short_word, stands_free, without_comments};
+ghost use Rattle.text_places.specs.Reading.{before_blanks, begins_word, behind_blanks, behind_word};
+ghost use Rattle.text_places.specs.Reading.{first_word, is_in_comment, last_end, last_word};
+ghost use Rattle.text_places.specs.Reading.{short_word, stands_free, without_comments};
 
 use crate::byte_kind::{ByteKind, first_count, last_count};
 use crate::limits::SHORT_WORD;

@@ -1,6 +1,8 @@
 //! A set's text, and where its tables, programs and statements begin.
 ghost use Rattle.std.specs.Prelude.{◌≡◌, ◌+◌, length, slice_get, IfNone, IfOk, IfSome};
-ghost use Rattle.text_places.specs.Landmarks.{places_before, statements_ahead, HasNoProgram, HasNoStatement, HasNoTable, IsProgramPlace, IsStatementPlace, IsTablePlace};
+ghost use Rattle.text_places.specs.Landmarks.{places_before, statements_ahead, HasNoProgram};
+ghost use Rattle.text_places.specs.Landmarks.{HasNoStatement, HasNoTable, IsProgramPlace};
+ghost use Rattle.text_places.specs.Landmarks.{IsStatementPlace, IsTablePlace};
 ghost use Rattle.text_places.specs.Reading.{without_comments};
 ghost use Rattle.text_places.specs.declared.landmark.Landmark.TheVariants.{Statement};
 

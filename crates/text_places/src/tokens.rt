@@ -1,7 +1,9 @@
 //! The words and signs of a text that may have any fault.
 ghost use Rattle.std.specs.Prelude.{◌≡◌, [], IsUtf8};
 ghost use Rattle.std.specs.List.{before_first, prefix_len};
-ghost use Rattle.text_places.specs.Tokens.{begins_by, begins_token, first_token, is_before_key, is_double, last_token, last_token_len, opens_key, second_token, sign_len, table_name, token_len};
+ghost use Rattle.text_places.specs.Tokens.{begins_by, begins_token, first_token, is_before_key};
+ghost use Rattle.text_places.specs.Tokens.{is_double, last_token, last_token_len, opens_key};
+ghost use Rattle.text_places.specs.Tokens.{second_token, sign_len, table_name, token_len};
 
 use crate::byte_kind::{ByteKind, last_count};
 use crate::place::{before, behind};

@@ -1,8 +1,8 @@
 //! What the store keeps of one cell.
 ghost use Rattle.std.specs.Prelude.{◌≡◌, ◌↔◌, ◌≤◌, ◌+◌, length, leb, None, IsTrue, OnOk, OnErr};
 ghost use Rattle.std.specs.List.{prefix_len};
-ghost use Rattle.version_store.specs.Reading.{RisesFrom, value_at};
-ghost use Rattle.version_store.specs.Reading.{last_number_or, last_number, cut_from};
+ghost use Rattle.version_store.specs.Reading.{RisesFrom, value_at, last_number_or, last_number};
+ghost use Rattle.version_store.specs.Reading.{cut_from};
 ghost use Rattle.version_store.specs.StandsFor.{no_chain, trimmed};
 ghost use Rattle.version_store.specs.Touches.{with_touch};
 

@@ -1,13 +1,13 @@
 //! The chains of all cells.
-ghost use Rattle.std.specs.Prelude.{◌≡◌, ◌+◌, ◌-◌, ◌≤◌, ◌^◌, [], Some, min};
-ghost use Rattle.std.specs.Prelude.{IfOk, IsTrue, IsFalse, OnOk, OnErr};
+ghost use Rattle.std.specs.Prelude.{◌≡◌, ◌+◌, ◌-◌, ◌≤◌, ◌^◌, [], Some, min, IfOk, IsTrue, IsFalse};
+ghost use Rattle.std.specs.Prelude.{OnOk, OnErr};
 ghost use Rattle.std.specs.BTreeMap.{IsFromIterResult};
 ghost use Rattle.std.specs.List.Sorted.{IsStrictlySortedBy};
 ghost use Rattle.prog_tree.specs.Table.{cell_cmp, cells_of, row_at, IsTableState};
 ghost use Rattle.version_store.specs.Reading.{AllRise, chain_at, value_at, number_at};
 ghost use Rattle.version_store.specs.Reading.{opening_chains, with_opening_row, with_commit};
-ghost use Rattle.version_store.specs.Reading.{cut_from, IsGrown, TrimsAll};
-ghost use Rattle.version_store.specs.Reading.{MakesAt, MakesEach, MakesTouched, KeepsBelow, OthersHold};
+ghost use Rattle.version_store.specs.Reading.{cut_from, IsGrown, TrimsAll, MakesAt, MakesEach};
+ghost use Rattle.version_store.specs.Reading.{MakesTouched, KeepsBelow, OthersHold};
 ghost use Rattle.version_store.specs.StandsFor.{no_chain, size, trimmed, EachHolds};
 ghost use Rattle.version_store.specs.Touches.{with_touch};
 ghost use Rattle.version_store.specs.Trimming.{within, beyond};

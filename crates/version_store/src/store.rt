@@ -1,6 +1,6 @@
 //! The store, over the chains of all cells.
-ghost use Rattle.std.specs.Prelude.{◌≡◌, ◌+◌, ◌-◌, ◌<◌, ◌≤◌, ◌^◌, [], ◌∷◌, ◌++◌, length};
-ghost use Rattle.std.specs.Prelude.{◌↔◌, IfOk, IsTrue, OnErr};
+ghost use Rattle.std.specs.Prelude.{◌≡◌, ◌+◌, ◌-◌, ◌<◌, ◌≤◌, ◌^◌, [], ◌∷◌, ◌++◌, length, ◌↔◌, IfOk};
+ghost use Rattle.std.specs.Prelude.{IsTrue, OnErr};
 ghost use Rattle.prog_tree.specs.Evaluation.{rows_left};
 ghost use Rattle.prog_tree.specs.Table.{rows_in, row_at};
 ghost use Rattle.version_store.specs.Clash.{IsClash};

@@ -1,7 +1,9 @@
 //! The versions of one cell.
 ghost use Rattle.std.specs.List.{list_all};
-ghost use Rattle.std.specs.Prelude.{◌≡◌, ◌↔◌, ◌≤◌, ◌+◌, ◌++◌, ◌∷◌, [], None, length, drop, filter, leb, nat_lt, IsTrue, OnOk, OnErr};
-ghost use Rattle.version_store.specs.Reading.{RisesFrom, IsCutAt, value_after, version_numbers, last_number_or};
+ghost use Rattle.std.specs.Prelude.{◌≡◌, ◌↔◌, ◌≤◌, ◌+◌, ◌++◌, ◌∷◌, [], None, length, drop, filter};
+ghost use Rattle.std.specs.Prelude.{leb, nat_lt, IsTrue, OnOk, OnErr};
+ghost use Rattle.version_store.specs.Reading.{RisesFrom, IsCutAt, value_after, version_numbers};
+ghost use Rattle.version_store.specs.Reading.{last_number_or};
 ghost use Rattle.version_store.specs.Trimming.{versions_kept};
 
 use crate::rare::Rare;

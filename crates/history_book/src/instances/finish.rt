@@ -1,6 +1,7 @@
 //! How a book keeps what an instance ended in.
 
-ghost use Rattle.std.specs.Prelude.{◌≡◌, ◌+◌, ◌-◌, ◌<◌, ◌≤◌, ◌^◌, [], ◌∷◌, ◌++◌, length, None, IsSome, IfOk, OnOk, OnErr};
+ghost use Rattle.std.specs.Prelude.{◌≡◌, ◌+◌, ◌-◌, ◌<◌, ◌≤◌, ◌^◌, [], ◌∷◌, ◌++◌, length, None};
+ghost use Rattle.std.specs.Prelude.{IsSome, IfOk, OnOk, OnErr};
 ghost use Rattle.std.specs.BTreeMap.{is_at};
 ghost use Rattle.std.specs.Map.{lookup};
 ghost use Rattle.std.specs.Ordering.{nat_cmp};
@@ -9,7 +10,8 @@ ghost use Rattle.version_store.specs.StandsFor.{StandsFor, InEachHistory, KeepsH
 ghost use Rattle.history_book.specs.Audit.{taken_up};
 ghost use Rattle.history_book.specs.Runs.{ended_in, committed_in, IsCommit};
 ghost use Rattle.history_book.specs.TrueBook.{IsTrueEnding, committed};
-ghost use Rattle.history_book.specs.View.{history_of, instance_of, done_in, most_endings, most_begins};
+ghost use Rattle.history_book.specs.View.{history_of, instance_of, done_in, most_endings};
+ghost use Rattle.history_book.specs.View.{most_begins};
 
 use crate::book::Book;
 use crate::instances::row::{Ending, HistoryRow};

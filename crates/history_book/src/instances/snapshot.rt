@@ -1,6 +1,7 @@
 //! What active instances see, and whether runs are theirs.
 
-ghost use Rattle.std.specs.Prelude.{◌≡◌, ◌≤◌, ◌↔◌, length, Some, true, IfOk, IfNone, IfSome, IsTrue, option_copied, MatchOption};
+ghost use Rattle.std.specs.Prelude.{◌≡◌, ◌≤◌, ◌↔◌, length, Some, true, IfOk, IfNone, IfSome};
+ghost use Rattle.std.specs.Prelude.{IsTrue, option_copied, MatchOption};
 ghost use Rattle.prog_tree.specs.Evaluation.{rows_left};
 ghost use Rattle.prog_tree.specs.Table.{row_at, rows_in};
 ghost use Rattle.prog_run.specs.Looks.{IsFound, AreFound, last_look};

@@ -1,6 +1,7 @@
 //! Equivalent serial orders, by running them.
 
-ghost use Rattle.std.specs.Prelude.{◌≡◌, ◌↔◌, ◌<◌, ◌≤◌, ℕ, All, [], ◌∷◌, ◌++◌, List, true, false, length, map, Some, IfOk, IfErr, OnOk, MatchOption, IsTrue};
+ghost use Rattle.std.specs.Prelude.{◌≡◌, ◌↔◌, ◌<◌, ◌≤◌, ℕ, All, [], ◌∷◌, ◌++◌, List, true, false};
+ghost use Rattle.std.specs.Prelude.{length, map, Some, IfOk, IfErr, OnOk, MatchOption, IsTrue};
 ghost use Rattle.std.specs.List.{list_all, range_with_len};
 ghost use Rattle.prog_tree.specs.Tree.{draft_tree};
 ghost use Rattle.history_book.specs.AnyFit.{IsAnyFitFault, most_ordered};
@@ -10,7 +11,8 @@ ghost use Rattle.history_book.specs.Orders.{is_one_of};
 ghost use Rattle.history_book.specs.Repeats.{IsSameAgain, begun_again};
 ghost use Rattle.history_book.specs.Serial.{is_each_once};
 ghost use Rattle.history_book.specs.TrueBook.{IsTrueRow};
-ghost use Rattle.history_book.specs.View.{FitsBook, history_of, instance_of, state_in, most_endings, most_begins};
+ghost use Rattle.history_book.specs.View.{FitsBook, history_of, instance_of, state_in};
+ghost use Rattle.history_book.specs.View.{most_endings, most_begins};
 
 use crate::book::{Book, is_ready};
 use crate::instances::row::{HistoryRow, same_numbers};

@@ -1,8 +1,10 @@
 //! The least order of the commits, by tests of those that are near each other.
 
-ghost use Rattle.std.specs.Prelude.{◌≡◌, ◌≤◌, ◌+◌, ◌↔◌, true, false, length, Some, IfOk, IfSome, IsTrue};
+ghost use Rattle.std.specs.Prelude.{◌≡◌, ◌≤◌, ◌+◌, ◌↔◌, true, false, length, Some, IfOk, IfSome};
+ghost use Rattle.std.specs.Prelude.{IsTrue};
 ghost use Rattle.history_book.specs.Horizons.{AreHorizons};
-ghost use Rattle.history_book.specs.Nearby.{is_marked, IsMarkedBelow, IsFreeTest, IsFirstFree, IsTestedBelow, AreHolders, WaitsFor};
+ghost use Rattle.history_book.specs.Nearby.{is_marked, IsMarkedBelow, IsFreeTest, IsFirstFree};
+ghost use Rattle.history_book.specs.Nearby.{IsTestedBelow, AreHolders, WaitsFor};
 ghost use Rattle.history_book.specs.Orders.{least_order, IsUpTo};
 ghost use Rattle.history_book.specs.Traces.{SeesEarlier, trace_depends};
 

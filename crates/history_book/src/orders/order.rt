@@ -1,13 +1,16 @@
 //! The least order in which each number stands behind those that have to stand before it, or a
 //! cycle that forbids it.
 
-ghost use Rattle.std.specs.Prelude.{nat_lt, ◌≡◌, ◌≢◌, ◌<◌, ◌≤◌, ◌+◌, ◌^◌, ◌==◌, ◌&&◌, ◌||◌, ℕ, Bool, true, [], drop, length, slice_index, Some, IfOk, IfErr, OnOk, ◌++◌, if◌then◌else◌};
+ghost use Rattle.std.specs.Prelude.{nat_lt, ◌≡◌, ◌≢◌, ◌<◌, ◌≤◌, ◌+◌, ◌^◌, ◌==◌, ◌&&◌, ◌||◌, ℕ};
+ghost use Rattle.std.specs.Prelude.{Bool, true, [], drop, length, slice_index, Some, IfOk, IfErr};
+ghost use Rattle.std.specs.Prelude.{OnOk, ◌++◌, if◌then◌else◌};
 ghost use Rattle.std.specs.BTreeSet.{IsFromIterResult};
 ghost use Rattle.std.specs.List.{IsFirstBest};
 ghost use Rattle.std.specs.Ordering.{nat_cmp};
 ghost use Rattle.history_book.specs.Orders.{is_one_of, least_order, IsCycle};
 ghost use Rattle.history_book.specs.Precedence.{precedes};
-ghost use Rattle.history_book.specs.Placing.{times, AreWaits, HasToWait, IsStuck, HasLeader, AreLeaders, IsLed, IsWalk, IsOrderFault};
+ghost use Rattle.history_book.specs.Placing.{times, AreWaits, HasToWait, IsStuck, HasLeader};
+ghost use Rattle.history_book.specs.Placing.{AreLeaders, IsLed, IsWalk, IsOrderFault};
 
 use crate::orders::precedence::Precedence;
 use std::alloc::{AllocError, AllocFailed, Global};

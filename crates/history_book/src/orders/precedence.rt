@@ -1,6 +1,7 @@
 //! What has to stand before what.
 
-ghost use Rattle.std.specs.Prelude.{◌≡◌, ◌↔◌, ◌-◌, slice_get, Some, ◌<◌, ◌≤◌, ◌==◌, ◌&&◌, ◌||◌, ◌^◌, ℕ, true, false, length, IfOk, OnOk, OnErr, IsTrue};
+ghost use Rattle.std.specs.Prelude.{◌≡◌, ◌↔◌, ◌-◌, slice_get, Some, ◌<◌, ◌≤◌, ◌==◌, ◌&&◌, ◌||◌};
+ghost use Rattle.std.specs.Prelude.{◌^◌, ℕ, true, false, length, IfOk, OnOk, OnErr, IsTrue};
 ghost use Rattle.history_book.specs.Orders.{is_one_of};
 ghost use Rattle.history_book.specs.Precedence.{behind, precedes};
 

@@ -3,10 +3,11 @@
 ghost use Rattle.std.specs.Prelude.{◌≡◌, ◌↔◌, length, slice_get, Some, IfOk, IsTrue, OnOk, IfSome};
 ghost use Rattle.history_book.specs.Orders.{IsReduced, IsUpTo};
 ghost use Rattle.history_book.specs.Traces.{trace_depends, SeesEarlier};
-ghost use Rattle.history_book.specs.Reduced.{AddsPairs, RiseFrom, AreWithin, AllRiseWithin, numbers_at};
-ghost use Rattle.history_book.specs.Reduced.{successive_from, successive_pairs, writers_pairs};
-ghost use Rattle.history_book.specs.Reduced.{seen_pairs, missed_pairs, reader_pairs};
-ghost use Rattle.history_book.specs.Reduced.{sight_pairs, region_pairs, sights_pairs, readers_pairs};
+ghost use Rattle.history_book.specs.Reduced.{AddsPairs, RiseFrom, AreWithin, AllRiseWithin};
+ghost use Rattle.history_book.specs.Reduced.{numbers_at, successive_from, successive_pairs};
+ghost use Rattle.history_book.specs.Reduced.{writers_pairs, seen_pairs, missed_pairs, reader_pairs};
+ghost use Rattle.history_book.specs.Reduced.{sight_pairs, region_pairs, sights_pairs};
+ghost use Rattle.history_book.specs.Reduced.{readers_pairs};
 ghost use Rattle.history_book.specs.Precedence.{precedes};
 
 use crate::orders::precedence::Precedence;

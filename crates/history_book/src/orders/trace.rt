@@ -4,7 +4,8 @@ ghost use Rattle.std.specs.Prelude.{◌≡◌, ◌↔◌, length, map, IfOk, IsT
 ghost use Rattle.std.specs.List.Sorted.{IsStrictlySortedBy};
 ghost use Rattle.prog_tree.specs.Table.{cell_cmp, cells_of};
 ghost use Rattle.history_book.specs.Orders.{IsUpTo};
-ghost use Rattle.history_book.specs.Traces.{changed_at, looked_at, sight_of, takes_in, trace_at, trace_of};
+ghost use Rattle.history_book.specs.Traces.{changed_at, looked_at, sight_of, takes_in, trace_at};
+ghost use Rattle.history_book.specs.Traces.{trace_of};
 
 use crate::orders::kept_region::KeptRegion;
 use prog_run::Run;

@@ -4,8 +4,8 @@ ghost use Rattle.std.specs.Prelude.{◌≡◌, ◌≤◌, [], length, IfOk, OnOk
 ghost use Rattle.std.specs.List.Sorted.{IsStrictlySortedBy};
 ghost use Rattle.prog_tree.specs.Table.{cell_cmp, cells_of, is_same_cell, is_cell_among};
 ghost use Rattle.history_book.specs.Traces.{changed_at};
-ghost use Rattle.history_book.specs.Reduced.{HasWriters, IsAddedAt, RiseFrom, IsCutBy};
-ghost use Rattle.history_book.specs.Reduced.{last_seen, first_missed};
+ghost use Rattle.history_book.specs.Reduced.{HasWriters, IsAddedAt, RiseFrom, IsCutBy, last_seen};
+ghost use Rattle.history_book.specs.Reduced.{first_missed};
 
 use crate::orders::numbers::Numbers;
 use crate::orders::trace::Trace;

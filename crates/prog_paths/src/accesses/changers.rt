@@ -1,5 +1,6 @@
 //! The accesses that change a table, found by their table.
-ghost use Rattle.std.specs.Prelude.{◌≡◌, ◌≤◌, ◌-◌, ℕ, take, drop, true, false, length, nat_lt, nat_le, IfOk};
+ghost use Rattle.std.specs.Prelude.{◌≡◌, ◌≤◌, ◌-◌, ℕ, take, drop, true, false, length, nat_lt};
+ghost use Rattle.std.specs.Prelude.{nat_le, IfOk};
 ghost use Rattle.std.specs.List.{filter};
 ghost use Rattle.std.specs.List.Sorted.{IsPartitionPoint};
 ghost use Rattle.prog_paths.specs.Tally.{of_table};

@@ -1,5 +1,6 @@
 //! How many questions there are, without memory: table by table, each in one walk.
-ghost use Rattle.std.specs.Prelude.{◌≡◌, ◌↔◌, ◌+◌, ◌^◌, ◌<◌, ◌++◌, ℕ, List, not, min, length, All, IsTrue};
+ghost use Rattle.std.specs.Prelude.{◌≡◌, ◌↔◌, ◌+◌, ◌^◌, ◌<◌, ◌++◌, ℕ, List, not, min, length, All};
+ghost use Rattle.std.specs.Prelude.{IsTrue};
 ghost use Rattle.prog_paths.specs.declared.accesses.places.Placed.{Placed};
 ghost use Rattle.prog_paths.specs.Places.{placed_from, all_from};
 ghost use Rattle.prog_paths.specs.Questions.{asked_among, questions_of};

@@ -1,7 +1,8 @@
 //! The facts of a question.
 ghost use Rattle.std.specs.Prelude.{◌≡◌, ◌∷◌, [], IfOk};
 ghost use Rattle.prog_paths.specs.Kinds.{option_items};
-ghost use Rattle.prog_paths.specs.Facts.{mine_node, their_node, column_facts, column_or_zero, question_facts};
+ghost use Rattle.prog_paths.specs.Facts.{mine_node, their_node, column_facts, column_or_zero};
+ghost use Rattle.prog_paths.specs.Facts.{question_facts};
 ghost use Rattle.prog_paths.specs.Shown.{second_terms};
 
 use order_facts::{Closed, Fact, Node};

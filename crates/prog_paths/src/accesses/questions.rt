@@ -1,6 +1,7 @@
 //! What two accesses ask, by their kinds and their places.
 ghost use Rattle.std.specs.Prelude.{◌≡◌, ◌↔◌, IsTrue};
-ghost use Rattle.prog_paths.specs.Questions.{asks_read_write, asks_write_read, both_write, kinds_depend, is_in_order, asks, question_between};
+ghost use Rattle.prog_paths.specs.Questions.{asks_read_write, asks_write_read, both_write};
+ghost use Rattle.prog_paths.specs.Questions.{kinds_depend, is_in_order, asks, question_between};
 ghost use Rattle.prog_paths.specs.Meeting.{MayTouch, MayCover};
 ghost use Rattle.prog_paths.specs.StaticGraph.{AsksReadWrite};
 

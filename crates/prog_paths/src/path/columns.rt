@@ -2,7 +2,8 @@
 ghost use Rattle.std.specs.Prelude.{◌≡◌, ◌+◌, ◌<◌, IfSome, Some, if◌then◌else◌};
 ghost use Rattle.std.specs.Option.{option_map};
 ghost use Rattle.prog_tree.specs.Tree.{expr_tree, key_tree, range_tree, stmt_tree};
-ghost use Rattle.prog_check.specs.Accesses.{is_unknown, single, term_of, key_columns, range_columns};
+ghost use Rattle.prog_check.specs.Accesses.{is_unknown, single, term_of, key_columns};
+ghost use Rattle.prog_check.specs.Accesses.{range_columns};
 ghost use Rattle.prog_check.specs.Names.{place_among};
 ghost use Rattle.prog_paths.specs.Columns.{columns_with};
 ghost use Rattle.prog_paths.specs.Trails.{columns_by};

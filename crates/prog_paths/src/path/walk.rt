@@ -3,7 +3,8 @@
 ghost use Rattle.std.specs.Prelude.{◌≡◌, ◌+◌, ◌≤◌, ◌∷◌, [], true, map, min, IfOk, OnOk};
 ghost use Rattle.prog_tree.specs.Tree.{stmt_tree, block_tree};
 ghost use Rattle.prog_check.specs.Paths.{statement_count, routes};
-ghost use Rattle.prog_paths.specs.Trails.{IsLow, AreLow, alone, passes, commits, past_body, along, all_along};
+ghost use Rattle.prog_paths.specs.Trails.{IsLow, AreLow, alone, passes, commits, past_body, along};
+ghost use Rattle.prog_paths.specs.Trails.{all_along};
 
 use crate::limits::MAX_COUNTED;
 use crate::path::trail::{Trail, pass};

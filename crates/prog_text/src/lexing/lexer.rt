@@ -2,7 +2,9 @@
 
 ghost use Rattle.std.specs.Prelude.{◌≡◌, ℕ, ◌+◌, ◌<◌, ◌≤◌, length, drop, slice_index, IfOk, true};
 ghost use Rattle.std.specs.List.{prefix_len};
-ghost use Rattle.prog_text.specs.Lexing.{is_letter, is_digit, is_word_byte, is_comment_byte, value_within, Gives, piece_at, word_at, number_at, sign_at, tokens_of};
+ghost use Rattle.prog_text.specs.Lexing.{is_letter, is_digit, is_word_byte, is_comment_byte};
+ghost use Rattle.prog_text.specs.Lexing.{value_within, Gives, piece_at, word_at, number_at};
+ghost use Rattle.prog_text.specs.Lexing.{sign_at, tokens_of};
 
 use crate::lexing::letters::{is_digit, is_letter, is_space, is_word_byte};
 use crate::lexing::lex_error::{Flaw, LexError};

@@ -5,7 +5,8 @@ ghost use Rattle.prog_tree.specs.Syntax.{Fork, Loop};
 ghost use Rattle.prog_tree.specs.Tree.{test_tree, listing_tree, stmt_tree, stmts_tree, block_tree};
 ghost use Rattle.prog_text.specs.Cursor.{Reads};
 ghost use Rattle.prog_text.specs.Reading.{listing_at, body_at, block_at};
-ghost use Rattle.prog_text.specs.OpenBlocks.{ReadsOn, Steps, unread_of, behind_end, behind_if, behind_each};
+ghost use Rattle.prog_text.specs.OpenBlocks.{ReadsOn, Steps, unread_of, behind_end, behind_if};
+ghost use Rattle.prog_text.specs.OpenBlocks.{behind_each};
 
 use crate::lexing::token::Sign;
 use crate::limits::MAX_BRACKETS;

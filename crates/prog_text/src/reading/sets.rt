@@ -3,7 +3,8 @@
 ghost use Rattle.std.specs.Prelude.{[], map};
 ghost use Rattle.prog_tree.specs.Tree.{program_tree, draft_tree};
 ghost use Rattle.prog_text.specs.Cursor.{Reads, itself};
-ghost use Rattle.prog_text.specs.Reading.{Gives, arity_at, table_at, tables_at, names_at, params_at, program_at, programs_at, set_at};
+ghost use Rattle.prog_text.specs.Reading.{Gives, arity_at, table_at, tables_at, names_at};
+ghost use Rattle.prog_text.specs.Reading.{params_at, program_at, programs_at, set_at};
 
 use crate::lexing::token::{Sign, Token};
 use crate::reading::blocks::block;

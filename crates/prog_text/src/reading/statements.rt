@@ -2,7 +2,8 @@
 
 ghost use Rattle.prog_tree.specs.Tree.{expr_tree};
 ghost use Rattle.prog_text.specs.Cursor.{Reads, ReadsPlain, assigned_tree, keyed_tree, ranged_tree};
-ghost use Rattle.prog_text.specs.Reading.{last_expr_at, last_key_at, last_range_at, assigned_at, get_at, bound_at, let_at, statement_at};
+ghost use Rattle.prog_text.specs.Reading.{last_expr_at, last_key_at, last_range_at, assigned_at};
+ghost use Rattle.prog_text.specs.Reading.{get_at, bound_at, let_at, statement_at};
 
 use crate::lexing::token::{Sign, Token};
 use crate::reading::cursor::Cursor;

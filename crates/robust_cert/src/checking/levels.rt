@@ -1,7 +1,9 @@
 //! Whether the levels rise over the edges that are left.
 ghost use Rattle.std.specs.Prelude.{◌≡◌, ℕ, ◌<◌, ◌≤◌, length, IfSome, IfNone, OnOk, IfErr};
 ghost use Rattle.order_facts.specs.Square.{Joins};
-ghost use Rattle.robust_cert.specs.Levels.{level_in, FallsIn, FallsFirst, IsLeastFall, StaysIn, StaysFirst, IsLowestBehind, StaysFirstBy, IsLeastFirstEdge, IsLeastStay, RiseOver, IsLevelFault};
+ghost use Rattle.robust_cert.specs.Levels.{level_in, FallsIn, FallsFirst, IsLeastFall, StaysIn};
+ghost use Rattle.robust_cert.specs.Levels.{StaysFirst, IsLowestBehind, StaysFirstBy};
+ghost use Rattle.robust_cert.specs.Levels.{IsLeastFirstEdge, IsLeastStay, RiseOver, IsLevelFault};
 
 use crate::fault::CertFault;
 use order_facts::Square;

@@ -3,7 +3,8 @@ ghost use Rattle.std.specs.Prelude.{◌≡◌, Some, slice_get};
 ghost use Rattle.prog_paths.specs.Listing.{IsBefore, RiseBy};
 ghost use Rattle.robust_cert.specs.Accepted.{question_of};
 ghost use Rattle.robust_cert.specs.Sharing.{Entry};
-ghost use Rattle.robust_cert.specs.Telling.{question_with, telling_with, telling_of, IsBehind, may_meet, may_be_exposed, mark_with};
+ghost use Rattle.robust_cert.specs.Telling.{question_with, telling_with, telling_of, IsBehind};
+ghost use Rattle.robust_cert.specs.Telling.{may_meet, may_be_exposed, mark_with};
 
 use crate::checking::numbers::Numbers;
 use crate::entries::{Entries, Reason};

@@ -1,7 +1,8 @@
 //! The heads of entries' texts. Entries with one first access follow each other, so their heads are
 //! written once and copied. The next heads are written where those before them stood.
 
-ghost use Rattle.std.specs.Prelude.{◌≡◌, ◌≤◌, ◌++◌, codes, string_bytes, string_capacity, IsTrue, IfOk, length};
+ghost use Rattle.std.specs.Prelude.{◌≡◌, ◌≤◌, ◌++◌, codes, string_bytes, string_capacity, IsTrue};
+ghost use Rattle.std.specs.Prelude.{IfOk, length};
 ghost use Rattle.robust_cert.specs.Json.{QuestionFits};
 ghost use Rattle.robust_cert.specs.Parts.{first_text, next_head_text};
 

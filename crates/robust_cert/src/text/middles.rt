@@ -1,7 +1,8 @@
 //! The middles of entries' texts. Each first access meets the same second ones, so the numbers of a
 //! second access are written once and copied.
 
-ghost use Rattle.std.specs.Prelude.{◌≡◌, ◌+◌, ◌≤◌, ◌++◌, IsTrue, IfSome, IfOk, string_bytes, string_capacity, string_len};
+ghost use Rattle.std.specs.Prelude.{◌≡◌, ◌+◌, ◌≤◌, ◌++◌, IsTrue, IfSome, IfOk, string_bytes};
+ghost use Rattle.std.specs.Prelude.{string_capacity, string_len};
 ghost use Rattle.robust_cert.specs.Parts.{second_text};
 ghost use Rattle.robust_cert.specs.Json.{QuestionFits};
 

@@ -1,7 +1,8 @@
 //! The text of a certificate in pieces, so that it stands nowhere as a whole. All memory that they
 //! need is taken before the first one is given.
 
-ghost use Rattle.std.specs.Prelude.{◌≡◌, ◌+◌, ◌<◌, ◌≤◌, ◌++◌, [], All, IsTrue, IsFalse, IfOk, length, string_bytes, string_capacity, string_len};
+ghost use Rattle.std.specs.Prelude.{◌≡◌, ◌+◌, ◌<◌, ◌≤◌, ◌++◌, [], All, IsTrue, IsFalse, IfOk};
+ghost use Rattle.std.specs.Prelude.{length, string_bytes, string_capacity, string_len};
 ghost use Rattle.robust_cert.specs.Json.{certificate_text, QuestionFits, CertificateFits};
 ghost use Rattle.robust_cert.specs.Parts.{tail_text, AreTailsOf, HasRoomFor, next_entry_text};
 ghost use Rattle.robust_cert.specs.Pieces.{next_entries_text, text_left};

@@ -1,12 +1,14 @@
 //! From text to a certificate.
 
-ghost use Rattle.std.specs.Prelude.{◌≡◌, ◌≢◌, ◌⊎◌, ◌++◌, [], codes, Some, IfSome, IfOk, IfErr, Ok, Err, IsTrue};
+ghost use Rattle.std.specs.Prelude.{◌≡◌, ◌≢◌, ◌⊎◌, ◌++◌, [], codes, Some, IfSome, IfOk, IfErr, Ok};
+ghost use Rattle.std.specs.Prelude.{Err, IsTrue};
 ghost use Rattle.serde_json.specs.View.{view};
 ghost use Rattle.robust_cert.specs.declared.certificate.Certificate.{Certificate};
 ghost use Rattle.robust_cert.specs.declared.fault.JsonFault.{JsonFault};
 ghost use Rattle.robust_cert.specs.Json.{IsValueOf};
 ghost use Rattle.robust_cert.specs.Pieces.{text_left};
-ghost use Rattle.robust_cert.specs.Reading.{ReadsAs, IsTextOf, IsFaultOf, HasFault, Answers, version_of, number_of};
+ghost use Rattle.robust_cert.specs.Reading.{ReadsAs, IsTextOf, IsFaultOf, HasFault, Answers};
+ghost use Rattle.robust_cert.specs.Reading.{version_of, number_of};
 
 use crate::certificate::Certificate;
 use crate::fault::{JsonFault, Untaken};

@@ -1,6 +1,7 @@
 //! Pieces that are added where room was made for them, so that they take no memory.
 
-ghost use Rattle.std.specs.Prelude.{◌≡◌, ◌+◌, ◌≤◌, ◌++◌, IsTrue, codes, decimal, length, string_bytes, string_capacity, string_len};
+ghost use Rattle.std.specs.Prelude.{◌≡◌, ◌+◌, ◌≤◌, ◌++◌, IsTrue, codes, decimal, length};
+ghost use Rattle.std.specs.Prelude.{string_bytes, string_capacity, string_len};
 
 use itoa::Buffer;
 

@@ -1,6 +1,7 @@
 //! From the parts of a JSON value to the parts of a certificate.
 
-ghost use Rattle.std.specs.Prelude.{◌≡◌, ◌≢◌, ◌^◌, codes, ℕ, ℤ, List, All, Some, Err, IfOk, IfSome, IfNone, IsTrue, ◌↔◌, FitsSigned};
+ghost use Rattle.std.specs.Prelude.{◌≡◌, ◌≢◌, ◌^◌, codes, ℕ, ℤ, List, All, Some, Err, IfOk, IfSome};
+ghost use Rattle.std.specs.Prelude.{IfNone, IsTrue, ◌↔◌, FitsSigned};
 ghost use Rattle.std.specs.Int.{w64};
 ghost use Rattle.serde_json.specs.Data.{Data, number, string, array, item, no_items};
 ghost use Rattle.serde_json.specs.Find.{of_integer};
@@ -9,7 +10,9 @@ ghost use Rattle.order_facts.specs.declared.steps.Node.{Node};
 ghost use Rattle.robust_cert.specs.declared.certificate.EntryQuestion.{EntryQuestion};
 ghost use Rattle.robust_cert.specs.declared.entries.Reason.{Reason};
 ghost use Rattle.robust_cert.specs.Ranges.{IsSmall, NodeFits, ChainFits};
-ghost use Rattle.robust_cert.specs.Json.{whole_data, node_data, QuestionFits, list_data, entry_data, ReasonFits, EntryFits, apart_items, cover_items, AreNumbersOf, IsWordedAs};
+ghost use Rattle.robust_cert.specs.Json.{whole_data, node_data, QuestionFits, list_data};
+ghost use Rattle.robust_cert.specs.Json.{entry_data, ReasonFits, EntryFits, apart_items};
+ghost use Rattle.robust_cert.specs.Json.{cover_items, AreNumbersOf, IsWordedAs};
 ghost use Rattle.robust_cert.specs.Sharing.{Entry, entry_with};
 
 use crate::certificate::EntryQuestion;

@@ -3,10 +3,13 @@
 ghost use Rattle.std.specs.Prelude.{◌≡◌, ◌++◌, ◌==◌, All, IfOk, OnOk, codes, decimal, string_bytes};
 ghost use Rattle.std.specs.List.{list_all};
 ghost use Rattle.robust_cert.specs.Ranges.{IsSmall};
-ghost use Rattle.robust_cert.specs.Json.{node_data, entry_data, has_no_bodies, certificate_text, QuestionFits, EntryFits, Appends};
+ghost use Rattle.robust_cert.specs.Json.{node_data, entry_data, has_no_bodies, certificate_text};
+ghost use Rattle.robust_cert.specs.Json.{QuestionFits, EntryFits, Appends};
 ghost use Rattle.robust_cert.specs.Reading.{IsTextOf};
 ghost use Rattle.robust_cert.specs.Parts.{first_text, head_text, second_text};
-ghost use Rattle.robust_cert.specs.Pieces.{first_entry_text, other_entries_text, next_entries_text, bodies_text, opening_text, version_text, levels_text, closing_text};
+ghost use Rattle.robust_cert.specs.Pieces.{first_entry_text, other_entries_text, next_entries_text};
+ghost use Rattle.robust_cert.specs.Pieces.{bodies_text, opening_text, version_text, levels_text};
+ghost use Rattle.robust_cert.specs.Pieces.{closing_text};
 ghost use Rattle.robust_cert.specs.Sharing.{entry_with, entries_told, HasReason};
 
 use crate::certificate::{Certificate, EntryQuestion};

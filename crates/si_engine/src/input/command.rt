@@ -1,7 +1,10 @@
 //! Lines of a script as commands.
 ghost use Rattle.std.specs.Prelude.{◌≡◌, Ok};
 ghost use Rattle.prog_tree.specs.Tree.{draft_tree};
-ghost use Rattle.si_engine.specs.Commands.{row_command, instance_number, one_instance, steps_of, program_call, begin_command, begin_at_command, step_command, commit_command, abort_command, vacuum_command, command_of, line_command};
+ghost use Rattle.si_engine.specs.Commands.{row_command, instance_number, one_instance, steps_of};
+ghost use Rattle.si_engine.specs.Commands.{program_call, begin_command, begin_at_command};
+ghost use Rattle.si_engine.specs.Commands.{step_command, commit_command, abort_command};
+ghost use Rattle.si_engine.specs.Commands.{vacuum_command, command_of, line_command};
 ghost use Rattle.si_engine.specs.LineFaults.{Reads};
 
 use crate::event::Event;

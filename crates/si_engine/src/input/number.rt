@@ -1,6 +1,7 @@
 //! Words as numbers: decimal, with leading zeros or a minus sign before them as it pleases.
 ghost use Rattle.std.specs.Prelude.{◌≡◌, pos, option_and_then, IfOk};
-ghost use Rattle.si_engine.specs.Numbers.{with_digit, natural_of, between, max_u64, i64_of, number_between, u64_of, numbers_of};
+ghost use Rattle.si_engine.specs.Numbers.{with_digit, natural_of, between, max_u64, i64_of};
+ghost use Rattle.si_engine.specs.Numbers.{number_between, u64_of, numbers_of};
 
 use crate::input::line_words::Word;
 use prog_tree::Sequence;

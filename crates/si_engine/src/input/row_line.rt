@@ -3,7 +3,8 @@ ghost use Rattle.std.specs.Prelude.{◌≡◌, ◌+◌, None, Some, OnOk, IfErr}
 ghost use Rattle.prog_tree.specs.Table.{row_at, with_row};
 ghost use Rattle.prog_tree.specs.Tree.{draft_tree};
 ghost use Rattle.si_engine.specs.LineFaults.{IsFault};
-ghost use Rattle.si_engine.specs.RowLines.{is_equals_sign, one_key, two_keys, row_words, arity_of, cell_of_keys, row_line_of, row_fault};
+ghost use Rattle.si_engine.specs.RowLines.{is_equals_sign, one_key, two_keys, row_words, arity_of};
+ghost use Rattle.si_engine.specs.RowLines.{cell_of_keys, row_line_of, row_fault};
 
 use crate::input::line_fault::LineFault;
 use crate::input::line_words::Word;

@@ -1,9 +1,11 @@
 //! Scripts.
-ghost use Rattle.std.specs.Prelude.{◌≡◌, ◌≤◌, ◌+◌, ◌↔◌, ◌++◌, ◌∷◌, [], true, false, None, Some, OnOk, IfOk, IfErr, IsErrOf, replicate};
+ghost use Rattle.std.specs.Prelude.{◌≡◌, ◌≤◌, ◌+◌, ◌↔◌, ◌++◌, ◌∷◌, [], true, false, None, Some};
+ghost use Rattle.std.specs.Prelude.{OnOk, IfOk, IfErr, IsErrOf, replicate};
 ghost use Rattle.prog_tree.specs.Tree.{draft_tree};
 ghost use Rattle.si_engine.specs.Sources.{ForInput};
 ghost use Rattle.si_engine.specs.LineFaults.{IsFault};
-ghost use Rattle.si_engine.specs.Script.{room_fault, order_fault, with_row_of, events_in, IsScript, IsScriptFault};
+ghost use Rattle.si_engine.specs.Script.{room_fault, order_fault, with_row_of, events_in, IsScript};
+ghost use Rattle.si_engine.specs.Script.{IsScriptFault};
 
 use crate::event::Event;
 use crate::input::command::{Command, line_command};

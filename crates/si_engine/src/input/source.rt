@@ -1,5 +1,6 @@
 //! Where the input comes from, and how it is read whole.
-ghost use Rattle.std.specs.Prelude.{◌≡◌, ◌<◌, ◌≤◌, ◌+◌, ◌↔◌, ℕ, Bool, List, Option, None, true, length, vec_len, IsErr, IfOk, IfSome, OnOk, OnErr, IsErrOf};
+ghost use Rattle.std.specs.Prelude.{◌≡◌, ◌<◌, ◌≤◌, ◌+◌, ◌↔◌, ℕ, Bool, List, Option, None, true};
+ghost use Rattle.std.specs.Prelude.{length, vec_len, IsErr, IfOk, IfSome, OnOk, OnErr, IsErrOf};
 ghost use Rattle.std.specs.Io.KnownBytes.{ReadConsumes, IsAtEnd};
 ghost use Rattle.si_engine.specs.Sources.{CanGive};
 

@@ -5,7 +5,8 @@
 ghost use Rattle.std.specs.Fmt.{signed_decimal};
 ghost use Rattle.std.specs.Prelude.{◌≡◌, ◌<◌, ◌++◌, [], ◌∷◌, codes};
 ghost use Rattle.std.specs.List.{flat_map};
-ghost use Rattle.si_engine.specs.Printed.{table_head, cell_text, region_in, region_text, value_text};
+ghost use Rattle.si_engine.specs.Printed.{table_head, cell_text, region_in, region_text};
+ghost use Rattle.si_engine.specs.Printed.{value_text};
 ghost use Rattle.si_engine.specs.Writing.{AddsBytes};
 
 use itoa::{Buffer, Integer};

@@ -5,7 +5,8 @@ ghost use Rattle.std.specs.Fmt.{signed_decimal};
 ghost use Rattle.std.specs.Prelude.{◌≡◌, ◌++◌, OnOk, OnErr, take, codes, string_bytes};
 ghost use Rattle.std.specs.Str.{IsCharBoundary};
 ghost use Rattle.si_engine.specs.LastLine.{last_line, spaced_numbers};
-ghost use Rattle.si_engine.specs.Printed.{deed_text, cause_text, reply_text, subject, reply_line, row_text_in, printed_row};
+ghost use Rattle.si_engine.specs.Printed.{deed_text, cause_text, reply_text, subject, reply_line};
+ghost use Rattle.si_engine.specs.Printed.{row_text_in, printed_row};
 ghost use Rattle.si_engine.specs.Writing.{AddsOrStays, AddsBytes};
 
 use crate::event::{Event, Reply};

@@ -1,10 +1,12 @@
 //! Runs of scripts over robust sets.
-ghost use Rattle.std.specs.Prelude.{◌≡◌, ◌≤◌, ◌+◌, ◌++◌, ◌∷◌, [], true, false, string_bytes, IfOk, OnOk, OnErr};
+ghost use Rattle.std.specs.Prelude.{◌≡◌, ◌≤◌, ◌+◌, ◌++◌, ◌∷◌, [], true, false, string_bytes, IfOk};
+ghost use Rattle.std.specs.Prelude.{OnOk, OnErr};
 ghost use Rattle.std.specs.List.{zip};
 ghost use Rattle.prog_tree.specs.Tree.{draft_tree};
 ghost use Rattle.si_engine.specs.LastLine.{last_line};
 ghost use Rattle.si_engine.specs.Sources.{ForInput};
-ghost use Rattle.si_engine.specs.Runs.{exchange_lines, outcome_lines, run_lines, AddsLines, AddsFirst, AddsRun, IsRobustScriptRun, IsRunOf, IsUnreadRun};
+ghost use Rattle.si_engine.specs.Runs.{exchange_lines, outcome_lines, run_lines, AddsLines};
+ghost use Rattle.si_engine.specs.Runs.{AddsFirst, AddsRun, IsRobustScriptRun, IsRunOf, IsUnreadRun};
 
 use crate::event::{Event, Reply};
 use crate::input::part_fault::PartFault;

@@ -1,7 +1,8 @@
 //! Which programs close a dangerous structure.
 ghost use Rattle.std.specs.Prelude.{◌≡◌, ◌<◌, OnOk, IfOk};
 ghost use Rattle.conflict_pairs.specs.Table.{StandsFor};
-ghost use Rattle.si_repair.specs.Planning.{first_pair, second_pair, AddsTriples, ClosesBehind, ClosesFrom, AreClosing};
+ghost use Rattle.si_repair.specs.Planning.{first_pair, second_pair, AddsTriples, ClosesBehind};
+ghost use Rattle.si_repair.specs.Planning.{ClosesFrom, AreClosing};
 
 use crate::plans::nodes::{ProgramNodes, begins_in};
 use dep_graph::Graph;

@@ -4,7 +4,8 @@ ghost use Rattle.prog_paths.specs.Questions.{ChangesSingleCells, numbers_of, que
 ghost use Rattle.prog_paths.specs.Places.{IsAt};
 ghost use Rattle.prog_paths.specs.StaticGraph.{IsAccessOf};
 ghost use Rattle.conflict_pairs.specs.Verdicts.{TellsExposed};
-ghost use Rattle.si_repair.specs.Exposed.{AreExposed, IsFirstExposed, ArePlacesOfPair, MayMiss, IsExposedTo, AreExposedAmong};
+ghost use Rattle.si_repair.specs.Exposed.{AreExposed, IsFirstExposed, ArePlacesOfPair, MayMiss};
+ghost use Rattle.si_repair.specs.Exposed.{IsExposedTo, AreExposedAmong};
 ghost use Rattle.conflict_pairs.specs.Alike.{HasAccess};
 
 use conflict_pairs::is_exposed_question;

@@ -3,7 +3,8 @@ ghost use Rattle.std.specs.Prelude.{◌≡◌, ◌++◌, IfOk, length, map, All}
 ghost use Rattle.std.specs.List.{flat_map};
 ghost use Rattle.prog_tree.specs.Syntax.{Plain};
 ghost use Rattle.prog_tree.specs.Tree.{stmt_tree, program_tree, draft_tree};
-ghost use Rattle.repair_laws.specs.Materialised.{plain_table, keeps_for, with_front, all_with_front, HasKey, materialised_by};
+ghost use Rattle.repair_laws.specs.Materialised.{plain_table, keeps_for, with_front};
+ghost use Rattle.repair_laws.specs.Materialised.{all_with_front, HasKey, materialised_by};
 ghost use Rattle.si_repair.specs.Front.{HasColumns, HaveColumns};
 
 use crate::repairs::keeps::keeps_for;

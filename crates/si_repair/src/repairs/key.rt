@@ -3,7 +3,8 @@ ghost use Rattle.std.specs.Prelude.{◌≡◌, ◌↔◌, ◌++◌, ℕ, List, A
 ghost use Rattle.prog_paths.specs.Questions.{ChangesSingleCells};
 ghost use Rattle.prog_paths.specs.declared.accesses.questions.Question.{Question as Asked};
 ghost use Rattle.repair_laws.specs.Keys.{IsKeyOf};
-ghost use Rattle.si_repair.specs.Key.{IsMissed, AreFactsOf, PutEqual, AreLeft, AreForced, params_with, all_pairs};
+ghost use Rattle.si_repair.specs.Key.{IsMissed, AreFactsOf, PutEqual, AreLeft, AreForced};
+ghost use Rattle.si_repair.specs.Key.{params_with, all_pairs};
 
 use crate::repairs::exposed::{access_at, exposed_to, places_of_pair};
 use order_facts::{Closed, Node};

@@ -1,9 +1,11 @@
 //! Repairs by new tables: both programs of a pair keep one row of a table of their own.
-ghost use Rattle.std.specs.Prelude.{◌≡◌, ◌+◌, ◌-◌, ◌<◌, List, [], ◌∷◌, ◌++◌, All, IfErr, IfOk, IfSome, IfNone, OnOk, length, take};
+ghost use Rattle.std.specs.Prelude.{◌≡◌, ◌+◌, ◌-◌, ◌<◌, List, [], ◌∷◌, ◌++◌, All, IfErr, IfOk};
+ghost use Rattle.std.specs.Prelude.{IfSome, IfNone, OnOk, length, take};
 ghost use Rattle.prog_tree.specs.Tree.{draft_tree};
 ghost use Rattle.prog_check.specs.Paths.{paths_of};
 ghost use Rattle.prog_check.specs.Sound.{IsSound};
-ghost use Rattle.repair_laws.specs.Materialised.{params_of, HasKey, AreNewTables, materialised_by, IsMaterialised};
+ghost use Rattle.repair_laws.specs.Materialised.{params_of, HasKey, AreNewTables, materialised_by};
+ghost use Rattle.repair_laws.specs.Materialised.{IsMaterialised};
 ghost use Rattle.repair_laws.specs.Refusals.{StopsMaterialising};
 ghost use Rattle.repair_laws.specs.declared.plan.Pair.{Pair as OfPrograms};
 ghost use Rattle.si_repair.specs.Checking.{IsRefused};

@@ -4,7 +4,8 @@ ghost use Rattle.prog_tree.specs.Tree.{draft_tree};
 ghost use Rattle.prog_check.specs.Paths.{paths_of};
 ghost use Rattle.repair_laws.specs.Refusals.{IsUnknownTerm, IsUnknownSecond, HasUnknownKey};
 ghost use Rattle.si_repair.specs.Exposed.{HasBoth, AreExposed};
-ghost use Rattle.si_repair.specs.Obstacles.{IsObstacle, IsRangeIn, MeetInBody, Hinders, HasHindered, IsFirstHindered, IsFirstHinderedOf};
+ghost use Rattle.si_repair.specs.Obstacles.{IsObstacle, IsRangeIn, MeetInBody, Hinders};
+ghost use Rattle.si_repair.specs.Obstacles.{HasHindered, IsFirstHindered, IsFirstHinderedOf};
 
 use crate::repairs::exposed::{access_at, exposed_questions};
 use crate::repairs::ranges::{is_range, ranges_of};

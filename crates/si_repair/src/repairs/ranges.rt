@@ -1,5 +1,6 @@
 //! Which statements are ranges.
-ghost use Rattle.std.specs.Prelude.{◌≡◌, ◌↔◌, ◌++◌, false, IfOk, OnOk, IsTrue, slice_get, slice_index_or};
+ghost use Rattle.std.specs.Prelude.{◌≡◌, ◌↔◌, ◌++◌, false, IfOk, OnOk, IsTrue, slice_get};
+ghost use Rattle.std.specs.Prelude.{slice_index_or};
 ghost use Rattle.prog_tree.specs.Syntax.{BlockTree};
 ghost use Rattle.prog_tree.specs.Tree.{with_stmt, block_tree, draft_tree};
 ghost use Rattle.repair_laws.specs.Refusals.{IsRangeAt};

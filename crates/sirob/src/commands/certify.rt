@@ -8,7 +8,8 @@ ghost use Rattle.si_repair.specs.Findings.{IsRightFinding};
 ghost use Rattle.sirob.specs.FaultLines.{is_memory};
 ghost use Rattle.sirob.specs.Inputs.{AsksFew, IsChecked};
 ghost use Rattle.sirob.specs.Refusal.{refusal_text};
-ghost use Rattle.sirob.specs.Stops.{IsStop, IsInputDone, IsTextOrStop, IsUnanalysedBy, WritesWithEnd};
+ghost use Rattle.sirob.specs.Stops.{IsStop, IsInputDone, IsTextOrStop, IsUnanalysedBy};
+ghost use Rattle.sirob.specs.Stops.{WritesWithEnd};
 ghost use Rattle.sirob.specs.declared.command_line.Mode.TheVariants as mode;
 ghost use Rattle.sirob.specs.declared.status.Status.TheVariants as status;
 

@@ -2,7 +2,8 @@
 ghost use Rattle.std.specs.Prelude.{◌≡◌, IfOk, string_bytes};
 ghost use Rattle.prog_tree.specs.Tree.{draft_tree};
 ghost use Rattle.si_engine.specs.LastLine.{spaced_numbers};
-ghost use Rattle.sirob.specs.Refusal.{path_name, path_params, access_text, sample_numbers, sample_text, exposure_text, refusal_text};
+ghost use Rattle.sirob.specs.Refusal.{path_name, path_params, access_text, sample_numbers};
+ghost use Rattle.sirob.specs.Refusal.{sample_text, exposure_text, refusal_text};
 
 use analysis_words::{branches_text, node_of};
 use conflict_pairs::Question;
