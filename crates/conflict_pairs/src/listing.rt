@@ -132,44 +132,33 @@ fn number_at(numbers: &[u32], n: u32) -> u32
     numbers[n as usize]
 }
 
-/// For each question the number of its verdict, which is that of the judged one with its number.
-fn verdict_numbers(
-    alloc: Global,
-    numbers: &[u32],
-    of_judged: &[u32],
-) -> Result<Vec<u32>, AllocError>
-    requires { All (λ n. n < length of_judged.now) numbers.now }
-    ensures { IfOk result (λ all.
-        all.items ≡ map (λ n. slice_index_or of_judged.now n 0) numbers.now) }
+/// From the numbers of judged questions to those of their verdicts, where they stand.
+fn take_through(numbers: &mut Vec<u32>, of_judged: &[u32])
+    requires { All (λ n. n < length of_judged.now) numbers.old.items }
+    ensures { numbers.new.items ≡ map (λ n. slice_index_or of_judged.now n 0) numbers.old.items }
 {
-    let mut all = Vec::with_capacity(alloc, numbers.len())?;
-    for number in numbers {
-        all.push(number_at(of_judged, *number))?;
+    for k in 0..numbers.len() {
+        numbers[k] = number_at(of_judged, numbers[k]);
     }
-    Ok(all)
 }
 
 /// The table of questions, by the verdicts on those that are judged.
-pub fn table_of(
-    alloc: Global,
-    paths: &[Path],
-    questions: Questions,
-    judged: PairVerdicts,
-) -> Result<PairTable, AllocError>
+pub fn table_of(paths: &[Path], questions: Questions, judged: PairVerdicts) -> PairTable
     requires single { All ChangesSingleCells paths.now }
     requires listed { AreQuestionsOf paths.now questions }
     requires judged { ArePairsJudged paths.now questions.places.items questions.judged.items
         judged.verdicts.items judged.numbers.items }
-    ensures { IfOk result (λ table. StandsFor table paths.now) }
+    ensures { StandsFor result paths.now }
 {
-    let numbers = verdict_numbers(alloc, &questions.numbers, &judged.numbers)?;
-    Ok(PairTable::of(
+    let mut numbers = questions.numbers;
+    take_through(&mut numbers, &judged.numbers);
+    PairTable::of(
         paths.len(),
         questions.places,
         questions.pairs,
         numbers,
         judged.verdicts,
-    ))
+    )
 }
 
 /// All questions of the paths in order, with their verdicts. They are counted before any memory is
@@ -182,5 +171,5 @@ pub fn pairs(alloc: Global, paths: &[Path]) -> Result<PairTable, PairFault>
 {
     let questions = numbered_questions(alloc, paths)?;
     let judged = verdicts_of(alloc, paths, &questions.places, &questions.judged)?;
-    Ok(table_of(alloc, paths, questions, judged)?)
+    Ok(table_of(paths, questions, judged))
 }

@@ -115,5 +115,5 @@ pub fn pairs_par(
     let questions = numbered_questions(alloc, paths)?;
     let parts = parts_of(rt, alloc, paths, &questions.places, &questions.judged)?;
     let judged = all_verdicts(alloc, questions.judged.len(), parts)?;
-    Ok(table_of(alloc, paths, questions, judged)?)
+    Ok(table_of(paths, questions, judged))
 }
