@@ -12,7 +12,7 @@ from functions import calls, calls_itself, function_at, functions_of
 from twins import add_twins, has_twin
 
 # how many edits of functions of their own share one check: as many as memory holds
-MOST_TWINS = 24
+MOST_TWINS = 40
 
 
 @dataclass
@@ -69,6 +69,17 @@ def wrong_body(edit, texts):
     if is_alone and not named:
         raise BadEdit("it changes a line outside every function, and no line 'function:' names the one that it turns")
     return WrongBody(edit, tuple(named or dict.fromkeys(changed)), is_alone)
+
+
+def one_for_each_public(bodies, texts):
+    """Returns of the edits of each public function one: the first by name that makes a function of its own, or else the
+    first."""
+    found = {}
+    for body in sorted(bodies, key=lambda it: not has_twin(it, texts)):
+        for function in body.functions:
+            if function.is_public:
+                found.setdefault(function, body)
+    return list({it.edit.name: it for it in found.values()}.values())
 
 
 def names_one(body, functions):

@@ -38,6 +38,7 @@ class Crate:
     words: list  # those of a check
     below: set  # the names of the repository's crates that it stands on
     is_strict: bool = False  # whether an edit fails of which only names are missed
+    of_public_alone: bool = False  # whether one edit of each public function is tried and no other
     in_cycles: set = field(default_factory=set)  # paths of functions that share a proof with others, as far as known
 
 

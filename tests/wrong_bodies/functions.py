@@ -7,7 +7,7 @@ from dataclasses import dataclass
 BLANK = re.compile(r"//[^\n]*|/\*.*?\*/|b?\"(?:\\.|[^\"\\])*\"|b?'(?:\\[^\n]{1,8}?|[^'\\\n])'", re.S)
 CLAUSE = re.compile(r"\b(requires|ensures|ghost)\*?(\s+[\w-]+)?\s*:?\s*\Z")
 ITEM = re.compile(
-    r"(?P<attributes>(?:#\[[^\]]*\]\s*)*)(?:pub(?:\([^)]*\))?\s+)?(?:const\s+|unsafe\s+)*"
+    r"(?P<attributes>(?:#\[[^\]]*\]\s*)*)(?P<pub>pub(?:\([^)]*\))?\s+)?(?:const\s+|unsafe\s+)*"
     r"(?:(?P<kind>fn|mod|trait)\s+(?P<name>\w+)|(?P<impl>impl)\b(?P<head>[^{;]*))"
 )
 
@@ -19,6 +19,7 @@ class Function:
     last: int
     path: tuple  # of names: modules, type, function
     is_plain: bool  # a free function or a method of a type, in no cycle of calls
+    is_public: bool  # declared `pub`, or of a trait
     text: str
     span: tuple  # where it begins and ends in the file's text
     body: int  # where its body's brace stands there, or its end where it has none
@@ -104,8 +105,10 @@ def functions_of(file, text):
                 brace, behind = body_of(plain, at)
                 first, last = plain.count("\n", 0, item.start()) + 1, plain.count("\n", 0, behind) + 1
                 is_plain = not is_trait and "cycle" not in item["attributes"]
+                is_public = is_trait or (item["pub"] or "").strip() == "pub"
                 span, names = (item.start(), behind), (*path, item["name"])
-                found.append(Function(file, first, last, names, is_plain, plain[slice(*span)], span, brace))
+                kinds, text_of_it = (is_plain, is_public), plain[slice(*span)]
+                found.append(Function(file, first, last, names, *kinds, text_of_it, span, brace))
             at = behind
 
     walk(0, len(plain), module_of(file), False)
