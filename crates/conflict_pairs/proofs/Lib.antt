@@ -7,7 +7,7 @@ pub mod Likeness
 pub mod OneClass
 pub mod Entries
 pub mod Serving
-pub mod Sharing
+pub mod SharedVerdicts
 pub mod Numbered
 pub mod Paired
 pub mod Collecting

@@ -3,6 +3,7 @@ use Rattle.std.proofs.Common.{◌≡◌, ℕ, ◌+◌, ◌<◌, List, [], ◌∷
 use Rattle.std.specs.Prelude.{All}
 use Rattle.std.specs.List.{AllZip, flat_map}
 use Rattle.std.proofs.lemmas.List.Elements.{All-nil, All-cons, All-append, All-take, All-drop}
+use Rattle.prog_tree.proofs.Elements.{get_left}
 use Rattle.prog_check.specs.declared.path.Path.{Path}
 use Rattle.prog_paths.specs.declared.accesses.places.Placed.{Placed}
 use Rattle.rayon.specs.Lists.{chunks_of, chunks_from}
@@ -14,7 +15,7 @@ use Rattle.conflict_pairs.specs.Alike.{IsOnAsked}
 use Rattle.conflict_pairs.specs.Interning.{IsServed}
 use Rattle.conflict_pairs.specs.Pairing.{IsAskedBetween, IsOnPair, ArePairsJudged}
 use Rattle.conflict_pairs.specs.Table.{verdicts_in, numbers_in}
-use Rattle.conflict_pairs.proofs.Sharing.{at-front, at-behind}
+use Rattle.conflict_pairs.proofs.SharedVerdicts.{at-behind}
 use Rattle.conflict_pairs.proofs.Zipped.{AllZip-append}
 
 abbrev pub Part : Type 0
@@ -28,7 +29,7 @@ shifted R front vs rest [] [] h = tt
 shifted R front vs rest [] (n ∷ ns) h = absurd h
 shifted R front vs rest (k ∷ keys) [] h = absurd h
 shifted R front vs rest (k ∷ keys) (n ∷ ns) h = (
-  record { value = h.0.value; at = at-behind front (vs ++ rest) n h.0.value (at-front vs rest n h.0.value h.0.at); serves = h.0.serves },
+  record { value = h.0.value; at = at-behind front (vs ++ rest) n h.0.value (get_left vs rest n h.0.value h.0.at); serves = h.0.serves },
   shifted R front vs rest keys ns h.1,
 )
 

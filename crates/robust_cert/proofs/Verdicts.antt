@@ -72,7 +72,7 @@ module _ (nodes : List Path) (c : Certificate) (s : StandTo nodes c (length c.en
 
     pub first-from_levels : (fault : CertFault) → IsLevelFault (Joins left.edges) (Joins left.vulnerable) (level_in c.levels) fault → IsFirstFault nodes c fault
     first-from_levels (LevelFalls x y) h = (s, record { falls = falls-at x y h.falls; least = λ u v f. h.least u v (falls u v f) })
-    first-from_levels (Dangerous x y z) (none, h) = (s, (λ u v f. none u v (falls u v f)), record { stays = stays-at x y z h.stays; least = λ u v w f. h.least u v w (stays u v w f) })
+    first-from_levels (Dangerous x y z) (none, h) = (s, (λ u v f. none u v (falls u v f), record { stays = stays-at x y z h.stays; least = λ u v w f. h.least u v w (stays u v w f) }))
     first-from_levels TooLarge h = absurd h
     first-from_levels PathCount h = absurd h
     first-from_levels (NoSuchEntry k) h = absurd h

@@ -41,8 +41,12 @@ sum_none P f Q each (x ∷ xs) all = go (each x (All-head Q x xs all)) (sum_none
     go (inr none) (inl holds) = inl holds
     go (inr none) (inr rest) = inr (sum_by-cons f x xs ∙ (λ i. none i + rest i))
 
+-- one where the ending is a clash of the call
+abbrev clash_in : Call → Ending → ℕ
+clash_in call e = cond (is_clash_of call e) 1 0
+
 -- a call of no ending that clashed has no clash
-kept_none : (E : List Ending) (T : Tidings) (call : Call) (e : Ending) → IsClashTold E T e → (AreAsMany E T call) ⊎ (cond (is_clash_of call e) 1 0 ≡ 0)
+kept_none : (E : List Ending) (T : Tidings) (call : Call) (e : Ending) → IsClashTold E T e → (AreAsMany E T call) ⊎ (clash_in call e ≡ 0)
 kept_none E T call (Committed n) h = inr refl
 kept_none E T call (Clashed row clash) h = by_same (AreAsMany E T) call (called_in row) (is_same_call call (called_in row)) 1 refl h
 kept_none E T call (Aborted row cause) h = inr refl
@@ -60,7 +64,7 @@ from_none E T call (inr none) (inr nothing) = none ∙ sym nothing
 pub every_call : (E : List Ending) (T : Tidings) → All (IsClashTold E T) E → All (λ t. AreAsMany E T (call_of t.0)) T → AreClashesTold E T
 every_call E T kept told call =
     from_none E T call
-    (sum_none (AreAsMany E T call) (λ (e : Ending). cond (is_clash_of call e) 1 0) (IsClashTold E T) (kept_none E T call) E kept)
+    (sum_none (AreAsMany E T call) (clash_in call) (IsClashTold E T) (kept_none E T call) E kept)
     (sum_none (AreAsMany E T call) (clashes_of call) (λ (t : Job × Option JobOutcome). AreAsMany E T (call_of t.0)) (told_none E T call) T told)
 
 -- and the converse

@@ -3,7 +3,7 @@ use Rattle.std.specs.List.{AllZip}
 use Rattle.conflict_pairs.specs.declared.pairing.PlacePair.{PlacePair}
 use Rattle.conflict_pairs.specs.Interning.{IsServed}
 use Rattle.conflict_pairs.specs.Pairing.{IsOnPair}
-use Rattle.conflict_pairs.proofs.Sharing.{sound-more, served-more}
+use Rattle.conflict_pairs.proofs.SharedVerdicts.{sound-more, served-more}
 use Rattle.conflict_pairs.proofs.judge.verdicts_of.Goals as goal
 
 pub pair_verdict-requires : goal.pair_verdict-requires

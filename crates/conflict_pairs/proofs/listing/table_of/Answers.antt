@@ -11,7 +11,7 @@ use Rattle.conflict_pairs.specs.Alike.{IsAsked, IsJudgedAt}
 use Rattle.conflict_pairs.specs.Pairing.{AreQuestionsOf, ArePairsJudged, question_at, questions_at}
 use Rattle.conflict_pairs.proofs.Zipped.{AllZip-lengths}
 use Rattle.conflict_pairs.proofs.Collecting.{all_asked}
-use Rattle.conflict_pairs.proofs.Sharing.{on-questions}
+use Rattle.conflict_pairs.proofs.SharedVerdicts.{on-questions}
 use Rattle.conflict_pairs.proofs.Numbered.{all-through, judged-within, numbers-within, StandsFor-from}
 use Rattle.conflict_pairs.proofs.listing.table_of.Goals as goal
 

@@ -1,5 +1,5 @@
 use Rattle.std.proofs.Common.{get_or}
-use Rattle.conflict_pairs.proofs.Sharing.{AreTaken}
+use Rattle.conflict_pairs.proofs.SharedVerdicts.{AreTaken}
 use Rattle.conflict_pairs.proofs.listing.take_through.Given as goal
 
 abbrev pub invariant-loop-k : goal.invariant-loop-k

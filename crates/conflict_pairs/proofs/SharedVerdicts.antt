@@ -1,11 +1,11 @@
 -- Verdicts that several pairs share, one pair more at a time.
-use Rattle.std.proofs.Common.{◌≡◌, ◌≢◌, ℕ, ◌<◌, ◌≤◌, ◌+◌, ◌⊎◌, inl, inr, List, [], ◌∷◌, ◌++◌, length, get_or, map, take, set, append_assoc, refl, sym, subst, ap, ◌∙◌, arith, zero, suc}
+use Rattle.std.proofs.Common.{◌≡◌, ◌≢◌, ℕ, ◌<◌, ◌≤◌, ◌+◌, ◌⊎◌, inl, inr, List, [], ◌∷◌, ◌++◌, length, get_or, map, take, set, append_assoc, refl, sym, subst, ap, ◌∙◌, arith, suc}
 use Rattle.std.specs.Prelude.{All, Some, slice_get}
 use Rattle.std.specs.List.{AllZip}
 use Rattle.std.proofs.lemmas.Bool.{cases_lt}
 use Rattle.std.proofs.lemmas.List.{map_more, length-map, length-set, get_or-map, get_or-set_same, get_or-set_other, ext_get_or}
 use Rattle.std.proofs.lemmas.List.Elements.{All-push}
-use Rattle.std.proofs.lemmas.Option.{slice_get_within}
+use Rattle.prog_tree.proofs.Elements.{get_left}
 use Rattle.prog_check.specs.declared.path.Path.{Path}
 use Rattle.prog_paths.specs.declared.accesses.places.Placed.{Placed}
 use Rattle.conflict_pairs.specs.declared.pairing.PlacePair.{PlacePair}
@@ -13,28 +13,22 @@ use Rattle.conflict_pairs.specs.declared.verdicts.Verdict.{Verdict}
 use Rattle.conflict_pairs.specs.Verdicts.{IsSame}
 use Rattle.conflict_pairs.specs.Alike.{IsJudgedAt, IsOnAsked}
 use Rattle.conflict_pairs.specs.Interning.{IsServed}
-use Rattle.conflict_pairs.specs.Pairing.{IsAskedBetween, IsOnPair, ArePairsJudged, question_at, questions_at}
+use Rattle.conflict_pairs.specs.Pairing.{IsAskedBetween, IsOnPair, question_at, questions_at}
 use Rattle.conflict_pairs.proofs.Serving.{served-kept}
 use Rattle.conflict_pairs.proofs.Zipped.{AllZip-map, AllZip-more, AllZip-then}
 
 -- ---- a list, or the list with one more item behind it
 
--- what is there stays there when more is put behind
-pub at-front : {X : Type 0} (xs ys : List X) (k : ℕ) (y : X) → slice_get xs k ≡ Some y → slice_get (xs ++ ys) k ≡ Some y
-at-front [] ys k y at = let lt = slice_get_within [] k y at in let no : ⊥ = omega (arith, lt) in absurd no
-at-front (x ∷ xs) ys zero y at = at
-at-front (x ∷ xs) ys (suc k) y at = at-front xs ys k y at
-
 -- what stands behind a list stands so many places on
 pub at-behind : {X : Type 0} (front ys : List X) (n : ℕ) (y : X) → slice_get ys n ≡ Some y → slice_get (front ++ ys) (length front + n) ≡ Some y
-at-behind [] ys n y at = let none : length [] + n ≡ n = omega arith in ap (slice_get ys) none ∙ at
+at-behind [] ys n y at = let none : 0 + n ≡ n = omega arith in ap (slice_get ys) none ∙ at
 at-behind (x ∷ front) ys n y at =
     let more : length (x ∷ front) + n ≡ suc (length front + n) = omega arith in
     ap (slice_get (x ∷ (front ++ ys))) more ∙ at-behind front ys n y at
 
 kept-grown : (old new : List Verdict) (v : Verdict) → (new ≡ old) ⊎ (new ≡ old ++ v ∷ []) → (k : ℕ) (w : Verdict) → slice_get old k ≡ Some w → slice_get new k ≡ Some w
 kept-grown old new v (inl e) k w at = ap (λ (l : List Verdict). slice_get l k) e ∙ at
-kept-grown old new v (inr e) k w at = ap (λ (l : List Verdict). slice_get l k) e ∙ at-front old (v ∷ []) k w at
+kept-grown old new v (inr e) k w at = ap (λ (l : List Verdict). slice_get l k) e ∙ get_left old (v ∷ []) k w at
 
 all-grown : (P : Verdict → Type 0) (old new : List Verdict) (v : Verdict) → (new ≡ old) ⊎ (new ≡ old ++ v ∷ []) → P v → All P old → All P new
 all-grown P old new v (inl e) its h = subst (λ (l : List Verdict). All P l) (sym e) h
