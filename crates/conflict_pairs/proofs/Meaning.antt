@@ -1,6 +1,6 @@
 -- What the facts of a question say, in the words of meeting and covering.
 use Rattle.std.proofs.Common.{◌≡◌, ◌↔◌, ℕ, Bool, true, List, refl, sym, subst, ◌∙◌}
-use Rattle.std.specs.Prelude.{All, Some, slice_get, get_or, Result, Ok, Err, IfOk}
+use Rattle.std.specs.Prelude.{All, Some, slice_get, get_or}
 use Rattle.std.proofs.lemmas.Option.{get_or_from_slice_get, same_Some}
 use Rattle.order_facts.specs.declared.steps.Node.{Node}
 use Rattle.order_facts.specs.declared.steps.Fact.{Fact}
@@ -181,10 +181,6 @@ IsJudged-from_uncovered xs ys mine theirs fs v e h none =
     IsJudged-from_own xs ys mine theirs v (subst (λ (gs : List Fact). IsUncovered gs v) e h) (subst (λ (gs : List Fact). IsNoCover gs mine.kind theirs.kind xs ys) e none)
 
 -- ---- at once
-
-pub IfOk_then : {T E : Type 0} {P : T → Type 0} (r : Result T E) (Q : T → Type 0) → IfOk r P → ((x : T) → P x → Q x) → IfOk r Q
-IfOk_then (Ok x) Q h f = f x h
-IfOk_then (Err e) Q h f = tt
 
 pub HasFall-from_lists : (x y : Path) (a b : ℕ) (xs ys : List Access) (d e : Access) → xs ≡ x.accesses → ys ≡ y.accesses → NumbersFall (two x y) (between a b) → HasFall (question_facts (get_or xs a d) (get_or ys b e))
 HasFall-from_lists x y a b xs ys d e is_xs is_ys h =

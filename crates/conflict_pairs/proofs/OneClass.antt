@@ -67,7 +67,8 @@ placed-at node n (y ∷ xs) (suc a) x at =
     let e : n + 1 + a ≡ n + suc a = omega arith in
     placed-at node (n + 1) xs a x at ∙ ap (λ (k : ℕ). Some (placed node k x)) e
 
-at-right : (xs ys : List Placed) (k : ℕ) (p : Placed) → slice_get ys k ≡ Some p → slice_get (xs ++ ys) (length xs + k) ≡ Some p
+-- what stands behind a list stands so many places on
+pub at-right : {A : Type 0} (xs ys : List A) (k : ℕ) (p : A) → slice_get ys k ≡ Some p → slice_get (xs ++ ys) (length xs + k) ≡ Some p
 at-right [] ys k p at = let e : 0 + k ≡ k = omega arith in subst (λ (i : ℕ). slice_get ys i ≡ Some p) (sym e) at
 at-right (x ∷ xs) ys k p at =
     let e : suc (length xs) + k ≡ suc (length xs + k) = omega arith in

@@ -13,13 +13,10 @@ use Rattle.conflict_pairs.specs.declared.pairing.PlacePair.{PlacePair}
 use Rattle.conflict_pairs.specs.declared.sharing.PairVerdicts.{PairVerdicts}
 use Rattle.conflict_pairs.specs.Alike.{IsOnAsked}
 use Rattle.conflict_pairs.specs.Interning.{IsServed}
-use Rattle.conflict_pairs.specs.Pairing.{IsAskedBetween, IsOnPair, ArePairsJudged}
-use Rattle.conflict_pairs.specs.Table.{verdicts_in, numbers_in}
-use Rattle.conflict_pairs.proofs.SharedVerdicts.{at-behind}
+use Rattle.conflict_pairs.specs.Pairing.{IsAskedBetween}
+use Rattle.conflict_pairs.specs.Sharing.{IsOnPair, ArePairsJudged, verdicts_in, numbers_in}
+use Rattle.conflict_pairs.proofs.OneClass.{at-right}
 use Rattle.conflict_pairs.proofs.Zipped.{AllZip-append}
-
-abbrev pub Part : Type 0
-Part = PairVerdicts
 
 -- ---- the verdicts of chunks of pairs
 
@@ -29,21 +26,21 @@ shifted R front vs rest [] [] h = tt
 shifted R front vs rest [] (n ∷ ns) h = absurd h
 shifted R front vs rest (k ∷ keys) [] h = absurd h
 shifted R front vs rest (k ∷ keys) (n ∷ ns) h = (
-  record { value = h.0.value; at = at-behind front (vs ++ rest) n h.0.value (get_left vs rest n h.0.value h.0.at); serves = h.0.serves },
+  record { value = h.0.value; at = at-right front (vs ++ rest) n h.0.value (get_left vs rest n h.0.value h.0.at); serves = h.0.serves },
   shifted R front vs rest keys ns h.1,
 )
 
 module _ (paths : List Path) (places : List Placed) where
-  abbrev pub AreParts : List (List PlacePair) → List Part → Type 0
-  AreParts = AllZip (λ chunk (part : Part). ArePairsJudged paths places chunk part.verdicts.items part.numbers.items)
+  abbrev pub AreParts : List (List PlacePair) → List PairVerdicts → Type 0
+  AreParts = AllZip (λ chunk (part : PairVerdicts). ArePairsJudged paths places chunk part.verdicts.items part.numbers.items)
 
-  sound-in : (chunks : List (List PlacePair)) (parts : List Part) → AreParts chunks parts → All (IsOnAsked paths) (verdicts_in parts)
+  sound-in : (chunks : List (List PlacePair)) (parts : List PairVerdicts) → AreParts chunks parts → All (IsOnAsked paths) (verdicts_in parts)
   sound-in [] [] h = All-nil (IsOnAsked paths)
   sound-in [] (p ∷ parts) h = absurd h
   sound-in (c ∷ chunks) [] h = absurd h
   sound-in (c ∷ chunks) (p ∷ parts) h = All-append (IsOnAsked paths) p.verdicts.items (verdicts_in parts) h.0.sound (sound-in chunks parts h.1)
 
-  served-in : (front : List Verdict) (chunks : List (List PlacePair)) (parts : List Part) → AreParts chunks parts → AllZip (IsServed (IsOnPair paths places) (front ++ verdicts_in parts)) (flat_map (λ l. l) chunks) (numbers_in (length front) parts)
+  served-in : (front : List Verdict) (chunks : List (List PlacePair)) (parts : List PairVerdicts) → AreParts chunks parts → AllZip (IsServed (IsOnPair paths places) (front ++ verdicts_in parts)) (flat_map (λ l. l) chunks) (numbers_in (length front) parts)
   served-in front [] [] h = tt
   served-in front [] (p ∷ parts) h = absurd h
   served-in front (c ∷ chunks) [] h = absurd h
@@ -58,7 +55,7 @@ module _ (paths : List Path) (places : List Placed) where
       (shifted serves front vs rest c p.numbers.items h.0.served)
       (subst (λ (n : ℕ). AllZip (IsServed serves (front ++ (vs ++ rest))) pairs (numbers_in n parts)) (length-append front vs) moved)
 
-  pub of_whole : (pairs : List PlacePair) (size : ℕ) (parts : List Part) → AreParts (chunks_of (max size 1) pairs) parts → ArePairsJudged paths places pairs (verdicts_in parts) (numbers_in 0 parts)
+  pub of_whole : (pairs : List PlacePair) (size : ℕ) (parts : List PairVerdicts) → AreParts (chunks_of (max size 1) pairs) parts → ArePairsJudged paths places pairs (verdicts_in parts) (numbers_in 0 parts)
   of_whole pairs size parts h =
       let some : 0 < max size 1 = omega arith in
       let chunks = chunks_of (max size 1) pairs in
@@ -77,24 +74,24 @@ module _ (paths : List Path) (places : List Placed) where
 
 -- ---- the verdicts of all parts, one part more at a time
 
-pub joined-more : (old new whole : List Verdict) (rest left : List Part) (part : Part) → left ≡ part ∷ rest → new ≡ old ++ part.verdicts.items → old ++ verdicts_in left ≡ whole → new ++ verdicts_in rest ≡ whole
+pub joined-more : (old new whole : List Verdict) (rest left : List PairVerdicts) (part : PairVerdicts) → left ≡ part ∷ rest → new ≡ old ++ part.verdicts.items → old ++ verdicts_in left ≡ whole → new ++ verdicts_in rest ≡ whole
 joined-more old new whole rest left part first added h =
     ap (λ (l : List Verdict). l ++ verdicts_in rest) added ∙ append_assoc old part.verdicts.items (verdicts_in rest)
-    ∙ ap (λ (l : List Part). old ++ verdicts_in l) (sym first) ∙ h
+    ∙ ap (λ (l : List PairVerdicts). old ++ verdicts_in l) (sym first) ∙ h
 
-pub joined-end : (old whole : List Verdict) (left : List Part) → length left ≡ 0 → old ++ verdicts_in left ≡ whole → old ≡ whole
+pub joined-end : (old whole : List Verdict) (left : List PairVerdicts) → length left ≡ 0 → old ++ verdicts_in left ≡ whole → old ≡ whole
 joined-end old whole [] none h = sym (append-nil old) ∙ h
 joined-end old whole (part ∷ left) none h = absurd (omega (arith, none))
 
 -- ---- and their numbers
 
-pub numbered-more : (old new whole : List ℕ) (before behind : ℕ) (rest left : List Part) (part : Part) → left ≡ part ∷ rest → new ≡ old ++ map (λ n. before + n) part.numbers.items → behind ≡ before + length part.verdicts.items → old ++ numbers_in before left ≡ whole → new ++ numbers_in behind rest ≡ whole
+pub numbered-more : (old new whole : List ℕ) (before behind : ℕ) (rest left : List PairVerdicts) (part : PairVerdicts) → left ≡ part ∷ rest → new ≡ old ++ map (λ n. before + n) part.numbers.items → behind ≡ before + length part.verdicts.items → old ++ numbers_in before left ≡ whole → new ++ numbers_in behind rest ≡ whole
 numbered-more old new whole before behind rest left part first added is h =
     ap (λ (l : List ℕ). l ++ numbers_in behind rest) added
     ∙ append_assoc old (map (λ n. before + n) part.numbers.items) (numbers_in behind rest)
     ∙ ap (λ (n : ℕ). old ++ (map (λ m. before + m) part.numbers.items ++ numbers_in n rest)) is
-    ∙ ap (λ (l : List Part). old ++ numbers_in before l) (sym first) ∙ h
+    ∙ ap (λ (l : List PairVerdicts). old ++ numbers_in before l) (sym first) ∙ h
 
-pub numbered-end : (old whole : List ℕ) (before : ℕ) (left : List Part) → length left ≡ 0 → old ++ numbers_in before left ≡ whole → old ≡ whole
+pub numbered-end : (old whole : List ℕ) (before : ℕ) (left : List PairVerdicts) → length left ≡ 0 → old ++ numbers_in before left ≡ whole → old ≡ whole
 numbered-end old whole before [] none h = sym (append-nil old) ∙ h
 numbered-end old whole before (part ∷ left) none h = absurd (omega (arith, none))

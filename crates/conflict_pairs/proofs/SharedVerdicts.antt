@@ -10,21 +10,14 @@ use Rattle.prog_check.specs.declared.path.Path.{Path}
 use Rattle.prog_paths.specs.declared.accesses.places.Placed.{Placed}
 use Rattle.conflict_pairs.specs.declared.pairing.PlacePair.{PlacePair}
 use Rattle.conflict_pairs.specs.declared.verdicts.Verdict.{Verdict}
-use Rattle.conflict_pairs.specs.Verdicts.{IsSame}
 use Rattle.conflict_pairs.specs.Alike.{IsJudgedAt, IsOnAsked}
 use Rattle.conflict_pairs.specs.Interning.{IsServed}
-use Rattle.conflict_pairs.specs.Pairing.{IsAskedBetween, IsOnPair, question_at, questions_at}
+use Rattle.conflict_pairs.specs.Pairing.{IsAskedBetween, question_at, questions_at}
+use Rattle.conflict_pairs.specs.Sharing.{IsSame, IsOnPair}
 use Rattle.conflict_pairs.proofs.Serving.{served-kept}
 use Rattle.conflict_pairs.proofs.Zipped.{AllZip-map, AllZip-more, AllZip-then}
 
 -- ---- a list, or the list with one more item behind it
-
--- what stands behind a list stands so many places on
-pub at-behind : {X : Type 0} (front ys : List X) (n : ℕ) (y : X) → slice_get ys n ≡ Some y → slice_get (front ++ ys) (length front + n) ≡ Some y
-at-behind [] ys n y at = let none : 0 + n ≡ n = omega arith in ap (slice_get ys) none ∙ at
-at-behind (x ∷ front) ys n y at =
-    let more : length (x ∷ front) + n ≡ suc (length front + n) = omega arith in
-    ap (slice_get (x ∷ (front ++ ys))) more ∙ at-behind front ys n y at
 
 kept-grown : (old new : List Verdict) (v : Verdict) → (new ≡ old) ⊎ (new ≡ old ++ v ∷ []) → (k : ℕ) (w : Verdict) → slice_get old k ≡ Some w → slice_get new k ≡ Some w
 kept-grown old new v (inl e) k w at = ap (λ (l : List Verdict). slice_get l k) e ∙ at

@@ -3,6 +3,7 @@ pub mod Verdicts
 pub mod Search
 pub mod Alike
 pub mod Pairing
+pub mod Sharing
 pub mod Classes
 pub mod Table
 pub mod Law

@@ -9,9 +9,7 @@ use Rattle.prog_paths.specs.Places.{all_from}
 use Rattle.prog_paths.specs.Questions.{question_between}
 use Rattle.conflict_pairs.specs.declared.listing.Questions.{Questions}
 use Rattle.conflict_pairs.specs.declared.pairing.PlacePair.{PlacePair}
-use Rattle.conflict_pairs.specs.declared.verdicts.Verdict.{Verdict}
-use Rattle.conflict_pairs.specs.Interning.{AreInterned}
-use Rattle.conflict_pairs.specs.Alike.{AreListed, IsAsked, IsJudgedAt, IsOnAsked}
+use Rattle.conflict_pairs.specs.Alike.{AreListed, IsAsked}
 
 -- stands for an access where there is none
 abbrev pub no_place : Placed
@@ -61,14 +59,6 @@ pub record IsAskedBetween (paths : List Path) (places : List Placed) (pair : Pla
 -- a pair of accesses of the paths, of which the first asks something of the second
 abbrev pub IsAskedAt : List Path → PlacePair → Type 0
 IsAskedAt paths = IsAskedBetween paths (all_from 0 paths)
-
--- a verdict says what the facts say of the question of a pair
-abbrev pub IsOnPair : List Path → List Placed → PlacePair → Verdict → Type 0
-IsOnPair paths places pair verdict = IsJudgedAt paths (question_at places pair) verdict
-
--- these verdicts are each on some question of the paths, and for each pair the one of its number is on its question
-abbrev pub ArePairsJudged : List Path → List Placed → List PlacePair → List Verdict → List ℕ → Type 0
-ArePairsJudged paths places = AreInterned (IsOnAsked paths) (IsOnPair paths places)
 
 -- all questions of the paths by the numbers of their accesses, and which of them are judged
 pub record AreQuestionsOf (paths : List Path) (qs : Questions) : Type 0 where

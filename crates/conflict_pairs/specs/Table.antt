@@ -1,8 +1,6 @@
 -- A table of questions with their verdicts, and which paths it stands for.
-use Rattle.std.specs.Prelude.{◌≡◌, ℕ, ◌+◌, List, [], ◌∷◌, ◌++◌, length, map, All, slice_index_or}
-use Rattle.std.specs.List.{flat_map}
+use Rattle.std.specs.Prelude.{◌≡◌, ℕ, List, [], ◌∷◌, length, map, All, slice_index_or}
 use Rattle.prog_check.specs.declared.path.Path.{Path}
-use Rattle.conflict_pairs.specs.declared.sharing.PairVerdicts.{PairVerdicts}
 use Rattle.conflict_pairs.specs.declared.verdicts.Verdict.{Verdict}
 use Rattle.conflict_pairs.specs.declared.verdicts.Verdict.TheVariants.{Apart}
 use Rattle.prog_paths.specs.declared.accesses.questions.Question.{Question}
@@ -20,16 +18,6 @@ pub record Table : Type 0 where
   pub nodes : ℕ
   pub verdicts : List Verdict
   pub entries : List Judged
-
--- the verdicts of parts, one part after the other
-abbrev pub verdicts_in : List PairVerdicts → List Verdict
-verdicts_in = flat_map (λ part. part.verdicts.items)
-
--- the numbers of the pairs of parts, where so many verdicts stand before the first part
-abbrev pub numbers_in : ℕ → List PairVerdicts → List ℕ
-numbers_in before [] = []
-numbers_in before (part ∷ rest) =
-    map (λ n. before + n) part.numbers.items ++ numbers_in (before + length part.verdicts.items) rest
 
 -- the verdict of a number
 abbrev pub verdict_at : List Verdict → ℕ → Verdict

@@ -107,10 +107,6 @@ abbrev pub IsRight : List Path → QuestionNumbers → Verdict → Type 0
 IsRight nodes q verdict =
     (mine theirs : Access) → AsksOf nodes q mine theirs → IsRightOf nodes q mine theirs verdict
 
--- the kept verdict is the one that was found
-abbrev pub IsSame : Verdict → Verdict → Type 0
-IsSame found kept = kept ≡ found
-
 -- ---- what a verdict says
 
 -- the two accesses can meet

@@ -46,7 +46,7 @@ fn column_fall(mine: Column, theirs: Column) -> Option<Chain>
     }
 }
 
-/// The same of the second columns.
+/// The chain of the first fact of two second columns that is of two numbers that fall.
 fn second_fall(mine: Option<Column>, theirs: Option<Column>) -> Option<Chain>
     ensures some { IfSome result (λ chain. FallsAtOnce (second_facts mine theirs) chain) }
     ensures none { IfNone result (All (λ f. ¬ IsFall f.lo f.hi) (second_facts mine theirs)) }

@@ -1,5 +1,5 @@
 //! Chains that answers hold.
-ghost use Rattle.std.specs.Prelude.{◌≡◌, [], ◌∷◌};
+ghost use Rattle.std.specs.Prelude.{◌≡◌, [], ◌∷◌, IsTrue};
 ghost use Rattle.order_facts.specs.Chain.{IsTight};
 
 use order_facts::{Node, Nodes};
@@ -48,5 +48,12 @@ impl Chain {
         ensures tight { IsTight result.now }
     {
         self.nodes.as_slice()
+    }
+
+    /// Whether these are its nodes. A `false` promises nothing.
+    pub fn is_same(&self, nodes: &[Node]) -> bool
+        ensures { IsTrue result → self.now ≡ nodes.now }
+    {
+        self.as_slice() == nodes
     }
 }

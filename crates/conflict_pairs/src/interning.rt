@@ -1,9 +1,11 @@
 //! One value for all keys that are alike, as far as the slots remember it.
-ghost use Rattle.std.specs.Prelude.{◌≡◌, ◌<◌, ℕ, Some, length, slice_get, IsTrue, All, IfOk, OnOk};
+ghost use Rattle.std.specs.Prelude.{◌≡◌, ◌<◌, ◌++◌, ℕ, [], ◌∷◌, Some, length, slice_get};
+ghost use Rattle.std.specs.Prelude.{IsTrue, All, IfOk, OnOk};
 ghost use Rattle.conflict_pairs.specs.Interning.{IsServed, AreInterned};
 
 use crate::limits::MAX_VALUES;
 use std::alloc::{AllocError, Global};
+use std::marker::Model;
 
 /// Makes values for keys, one for many keys that are alike.
 pub trait Interner {
@@ -44,15 +46,65 @@ pub struct Interned<V> {
 }
 
 // How many numbers of values are remembered. It is a prime.
-pub const SLOTS: usize = 16_381;
+const SLOTS: usize = 16_381;
 
 // The golden section of all numbers, which sets near ones far apart.
 const SPREAD: usize = 0x9E37_79B9_7F4A_7C15;
 
-pub fn slot_of(hash: usize) -> usize
+fn slot_of(hash: usize) -> usize
     ensures { result < SLOTS }
 {
     (hash.wrapping_mul(SPREAD) >> 32) % SLOTS
+}
+
+/// Numbers that are remembered, each in the slot of a hash. Nothing is promised of which: who takes
+/// one tests it.
+#[derive(Drop)]
+pub struct Slots {
+    numbers: Vec<u32>,
+}
+
+impl Model for Slots {
+    ghost use Rattle.std.specs.Prelude.{◌≡◌, length};
+    ghost use Rattle.conflict_pairs.specs.declared.interning.TheConstants.{SLOTS};
+
+    ghost Value = { Unit {0} };
+
+    ghost view = { λ s. tt };
+
+    ghost invariant = { λ s. length s.numbers.items ≡ SLOTS };
+}
+
+impl Slots {
+    /// Slots that remember the number 0.
+    pub fn new(alloc: Global) -> Result<Slots, AllocError> {
+        let numbers = vec![in alloc; 0; SLOTS]?;
+        Ok(Slots { numbers })
+    }
+
+    /// The number that the slot of a hash remembers.
+    pub fn get(&self, hash: usize) -> u32 {
+        self.numbers[slot_of(hash)]
+    }
+
+    /// Remembers a number in the slot of a hash, in place of the one there.
+    pub fn set(&mut self, hash: usize, number: u32) {
+        self.numbers[slot_of(hash)] = number;
+    }
+}
+
+/// Adds a value, and gives its number. One more value than 32 bits can number is answered as want
+/// of memory.
+pub fn push_numbered<V: Drop>(values: &mut Vec<V>, value: V) -> Result<u32, AllocError>
+    ensures values { OnOk result (values.new.items ≡ values.old.items ++ value ∷ []) }
+    ensures number { IfOk result (λ number. number ≡ length values.old.items) }
+{
+    let number = values.len();
+    if number >= MAX_VALUES {
+        return Err(AllocError);
+    }
+    values.push(value)?;
+    Ok(number as u32)
 }
 
 /// Whether the value of a number serves a key.
@@ -64,8 +116,7 @@ fn is_remembered<I: Interner>(interner: &I, key: &I::Key, values: &[I::Value], n
     (number as usize) < values.len() && interner.is_served(key, &values[number as usize])
 }
 
-/// The number of a value that serves a key: the remembered one, or that of a new value. One more
-/// value than 32 bits can number is answered as want of memory.
+/// The number of a value that serves a key: the remembered one, or that of a new value.
 fn remembered_or_new<I: Interner>(
     alloc: Global,
     interner: &I,
@@ -84,12 +135,8 @@ fn remembered_or_new<I: Interner>(
     if is_remembered(interner, key, values, remembered) {
         return Ok(remembered);
     }
-    let number = values.len();
-    if number >= MAX_VALUES {
-        return Err(AllocError);
-    }
-    values.push(interner.make(alloc, key)?)?;
-    Ok(number as u32)
+    let number = push_numbered(values, interner.make(alloc, key)?)?;
+    Ok(number)
 }
 
 /// The number of a value that serves a key. Keys in a row are often alike, so the number of the
@@ -99,13 +146,11 @@ fn number_of<I: Interner>(
     interner: &I,
     key: &I::Key,
     last: u32,
-    slots: &mut Vec<u32>,
+    slots: &mut Slots,
     values: &mut Vec<I::Value>,
 ) -> Result<u32, AllocError>
     requires takes { I.takes interner.now key.now }
     requires sound { All (I.is_sound interner.now) values.old.items }
-    requires slots { length slots.old.items ≡ SLOTS }
-    ensures slots { OnOk result (length slots.new.items ≡ SLOTS) }
     ensures sound { OnOk result (All (I.is_sound interner.now) values.new.items) }
     ensures served { IfOk result
         (λ number. IsServed (I.serves interner.now) values.new.items key.now number) }
@@ -115,9 +160,9 @@ fn number_of<I: Interner>(
     if is_remembered(interner, key, values, last) {
         return Ok(last);
     }
-    let slot = slot_of(interner.hash(key));
-    let number = remembered_or_new(alloc, interner, key, slots[slot], values)?;
-    slots[slot] = number;
+    let hash = interner.hash(key);
+    let number = remembered_or_new(alloc, interner, key, slots.get(hash), values)?;
+    slots.set(hash, number);
     Ok(number)
 }
 
@@ -132,7 +177,7 @@ pub fn intern_all<I: Interner>(
     ensures { IfOk result (λ interned. AreInterned (I.is_sound interner.now)
         (I.serves interner.now) keys.now interned.values.items interned.numbers.items) }
 {
-    let mut slots = vec![in alloc; 0; SLOTS]?;
+    let mut slots = Slots::new(alloc)?;
     let mut values = Vec::new(alloc);
     let mut numbers = Vec::with_capacity(alloc, keys.len())?;
     let mut last = 0;

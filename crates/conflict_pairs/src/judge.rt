@@ -7,16 +7,17 @@ ghost use Rattle.prog_paths.specs.Questions.{IsQuestion, ChangesSingleCells, two
 ghost use Rattle.conflict_pairs.specs.Verdicts.{HasFall, NumbersFall, IsShortest, IsRight};
 ghost use Rattle.conflict_pairs.specs.Verdicts.{TellsExposed};
 ghost use Rattle.conflict_pairs.specs.Alike.{IsAsked, IsJudgedAt};
-ghost use Rattle.conflict_pairs.specs.Pairing.{ArePairsJudged, IsAskedBetween, question_at};
+ghost use Rattle.conflict_pairs.specs.Pairing.{IsAskedBetween, question_at};
+ghost use Rattle.conflict_pairs.specs.Sharing.{ArePairsJudged};
 ghost use Rattle.conflict_pairs.specs.Search.{CoversAt, ShowEqualAt, IsCoverFound, IsNoCover};
 ghost use Rattle.conflict_pairs.specs.Search.{IsLeftOpen, IsUncovered, IsJudged};
 
 use crate::apart::{contradiction, number_fall};
 use crate::chain::Chain;
 use crate::cover::{cover_chains, least_cover};
-use crate::interning::SLOTS;
+use crate::interning::Slots;
 use crate::pairing::{PlacePair, question_of};
-use crate::sharing::{PairVerdicts, place_of};
+use crate::sharing::{PairVerdicts, number_of_verdict};
 use crate::verdicts::Verdict;
 use order_facts::Closed;
 use prog_check::{Access, Kind, Path};
@@ -152,7 +153,8 @@ fn is_left_open_by_closed(
     }
 }
 
-/// The same, at once where two of its numbers fall.
+/// Whether the facts of two accesses can be met, and nothing in their lists covers, at once where
+/// two numbers of a column fall.
 fn is_left_open_by_facts(
     alloc: Global,
     xs: &[Access],
@@ -229,12 +231,12 @@ pub fn verdicts_of(
     ensures { IfOk result (λ judged. ArePairsJudged paths.now places.now pairs.now
         judged.verdicts.items judged.numbers.items) }
 {
-    let mut slots = vec![in alloc; 0; SLOTS]?;
+    let mut slots = Slots::new(alloc)?;
     let mut verdicts = Vec::new(alloc);
     let mut numbers = Vec::with_capacity(alloc, pairs.len())?;
     for pair in pairs {
         let verdict = pair_verdict(alloc, paths, places, *pair)?;
-        let number = place_of(verdict, &mut slots, &mut verdicts)?;
+        let number = number_of_verdict(verdict, &mut slots, &mut verdicts)?;
         numbers.push_reserved(number);
     }
     Ok(PairVerdicts { verdicts, numbers })

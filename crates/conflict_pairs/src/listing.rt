@@ -7,8 +7,9 @@ ghost use Rattle.prog_paths.specs.Questions.{ChangesSingleCells, asked_by, asked
 ghost use Rattle.prog_paths.specs.Questions.{questions_of};
 ghost use Rattle.prog_paths.specs.Limits.{most_questions};
 ghost use Rattle.conflict_pairs.specs.Classes.{starts_from};
-ghost use Rattle.conflict_pairs.specs.Pairing.{ArePairsJudged, AreQuestionsOf, HasPlaces, StandsAt};
+ghost use Rattle.conflict_pairs.specs.Pairing.{AreQuestionsOf, HasPlaces, StandsAt};
 ghost use Rattle.conflict_pairs.specs.Pairing.{place_at, questions_at};
+ghost use Rattle.conflict_pairs.specs.Sharing.{ArePairsJudged};
 ghost use Rattle.conflict_pairs.specs.Table.{StandsFor};
 
 use crate::classes::AccessClasses;

@@ -3,8 +3,9 @@ ghost use Rattle.std.specs.Prelude.{◌≡◌, ◌↔◌, ◌+◌, ◌++◌, ◌
 ghost use Rattle.conflict_pairs.specs.declared.fault.PairFault as PairFault;
 ghost use Rattle.prog_paths.specs.Questions.{ChangesSingleCells, questions_of};
 ghost use Rattle.prog_paths.specs.Limits.{most_questions};
-ghost use Rattle.conflict_pairs.specs.Pairing.{ArePairsJudged, IsAskedBetween};
-ghost use Rattle.conflict_pairs.specs.Table.{verdicts_in, numbers_in, StandsFor};
+ghost use Rattle.conflict_pairs.specs.Pairing.{IsAskedBetween};
+ghost use Rattle.conflict_pairs.specs.Sharing.{ArePairsJudged, verdicts_in, numbers_in};
+ghost use Rattle.conflict_pairs.specs.Table.{StandsFor};
 
 use crate::fault::PairFault;
 use crate::judge::verdicts_of;

@@ -6,7 +6,7 @@ use crate::chain::Chain;
 use order_facts::{Node, Sample};
 use prog_tree::Sequence;
 
-// A number for what was seen and one thing more.
+/// A number for what was seen and one thing more.
 fn mix(seen: usize, number: usize) -> usize {
     seen.wrapping_mul(2_531).wrapping_add(number)
 }
@@ -21,7 +21,7 @@ fn node_hash(node: Node) -> usize {
     }
 }
 
-// Of the first two nodes.
+/// The hash of a chain: of its first two nodes.
 fn chain_hash(chain: &Chain) -> usize {
     match chain.as_slice() {
         [] => 0,
@@ -30,7 +30,7 @@ fn chain_hash(chain: &Chain) -> usize {
     }
 }
 
-// Of the first and the last chain.
+/// The hash of some chains: of the first and the last.
 fn chains_hash(chains: &[Chain]) -> usize {
     match chains {
         [] => 0,
@@ -71,7 +71,8 @@ impl Verdict {
         matches!(self, Verdict::Exposed(_))
     }
 
-    /// The same number for verdicts that show the same, mostly another for others.
+    /// The same number for verdicts that show the same, mostly another for others. Nothing is
+    /// promised of it, as `Interner::hash` is free: a bad one costs time and memory alone.
     pub fn hash(&self) -> usize {
         match self {
             Verdict::Apart(chain) => chain_hash(chain),

@@ -4,12 +4,12 @@ ghost use Rattle.si_repair.specs.Certificates.{reason_of, Gives, AreGiven, Tight
 
 use crate::certificate::as_u32;
 use conflict_pairs::{Interned, Interner, Verdict, intern_all};
-use order_facts::{Node, Nodes};
+use order_facts::Nodes;
 use prog_tree::Sequence;
 use robust_cert::{Chain, Reason};
 use std::alloc::{AllocError, Global};
 
-// A chain as a certificate has it.
+/// A chain as a certificate has it.
 fn copy_of(alloc: Global, chain: &conflict_pairs::Chain) -> Result<Chain, AllocError>
     requires { TightFits chain.now }
     ensures { IfOk result (λ copy. copy ≡ chain.now) }
@@ -57,12 +57,6 @@ fn reason_of(alloc: Global, verdict: &Verdict) -> Result<Reason, AllocError>
     }
 }
 
-fn are_same_nodes(nodes: &[Node], others: &[Node]) -> bool
-    ensures { IsTrue result → nodes.now ≡ others.now }
-{
-    nodes == others
-}
-
 fn are_same_chains(chains: &[Chain], others: &[conflict_pairs::Chain]) -> bool
     ensures { IsTrue result → chains.now ≡ others.now }
 {
@@ -70,21 +64,19 @@ fn are_same_chains(chains: &[Chain], others: &[conflict_pairs::Chain]) -> bool
         return false;
     }
     for (chain, other) in chains.iter().zip(others) {
-        if !are_same_nodes(chain.as_slice(), other.as_slice()) {
+        if !other.is_same(chain.as_slice()) {
             return false;
         }
     }
     true
 }
 
-// Whether a reason is the one that a verdict gives.
+/// Whether a reason is the one that a verdict gives.
 fn is_given(reason: &Reason, verdict: &Verdict) -> bool
     ensures { IsTrue result → reason.now ≡ reason_of verdict.now }
 {
     match (reason, verdict) {
-        (Reason::Apart(chain), Verdict::Apart(other)) => {
-            are_same_nodes(chain.as_slice(), other.as_slice())
-        }
+        (Reason::Apart(chain), Verdict::Apart(other)) => other.is_same(chain.as_slice()),
         (
             Reason::Cover {
                 mine,

@@ -92,7 +92,7 @@ fn first_hindered(
     None
 }
 
-/// Whether there is one.
+/// Whether an obstacle hinders one of some questions.
 fn is_hindered(paths: &[Path], ranges: &[bool], questions: &[Question], obstacle: Obstacle) -> bool
     requires { All (λ q. HasBoth paths.now q) questions.now }
     ensures { IsTrue result

@@ -1,10 +1,10 @@
 use Rattle.std.proofs.Common.{◌≡◌, [], ◌∷◌, length, ap, ◌∙◌}
+use Rattle.std.proofs.lemmas.Result.{IfOk-weaker}
 use Rattle.order_facts.specs.Chain.{HasContradiction}
 use Rattle.prog_check.specs.declared.path.Column.{Column}
 use Rattle.prog_paths.specs.Facts.{mine_node, their_node}
 use Rattle.conflict_pairs.specs.Search.{FoundWithin}
 use Rattle.conflict_pairs.proofs.Falling.{lower_nodes, upper_nodes, found_for}
-use Rattle.conflict_pairs.proofs.Meaning.{IfOk_then}
 use Rattle.conflict_pairs.proofs.apart.shortest_fall.Goals as goal
 
 pub returns-clause-all : goal.returns-clause-all
@@ -18,5 +18,5 @@ returns-clause-all c =
     (λ i. c.mine_node.ensures i ∷ c.their_node-first.ensures i ∷ my_low i ∷ their_low i ∷ []) in
     let uppers : c.their_node-first.result ∷ c.mine_node-3.result ∷ c.their_node-second.result ∷ c.mine_node-4.result ∷ [] ≡ upper_nodes mine theirs =
     (λ i. c.their_node-first.ensures i ∷ c.mine_node-3.ensures i ∷ their_low i ∷ my_high i ∷ []) in
-    IfOk_then c.falling_between.result (λ found. (h : HasContradiction c.args.closed.now) → FoundWithin found (length h.chain)) c.falling_between.ensures.all
-    (λ found all h. found_for mine theirs c.args.closed.now _ _ _ c.requires lowers uppers all h)
+    IfOk-weaker c.falling_between.result _ (λ found. (h : HasContradiction c.args.closed.now) → FoundWithin found (length h.chain))
+    (λ found all h. found_for mine theirs c.args.closed.now _ _ _ c.requires lowers uppers all h) c.falling_between.ensures.all

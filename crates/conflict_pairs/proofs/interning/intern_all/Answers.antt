@@ -14,7 +14,6 @@ loop-key-preserved g c =
     let old = c.loop-key.values.items in
     let new = c.number_of.new.values.items in
     record {
-      places = c.in_ok-number.ensures.slots;
       sound = c.in_ok-number.ensures.sound;
       served =
           AllZip-more (IsServed serves new) c.args.keys.now c.loop-key.numbers.items c.push_reserved.new.self.items c.loop-key.key-index c.key-item.result _ (omega arith) c.push_reserved.ensures.items

@@ -7,7 +7,6 @@ use Rattle.conflict_pairs.proofs.interning.intern_all.Given as goal
 -- each key so far has the number of a value that serves it, and each other key has room for one
 abbrev pub invariant-loop-key : goal.invariant-loop-key
 invariant-loop-key g l = record {
-  places : length l.slots.items ≡ 16381;
   sound : All (g.I.Interner.is_sound l.interner) l.values.items;
   served : AllZip (IsServed (g.I.Interner.serves l.interner) l.values.items) (take l.key-index l.keys) l.numbers.items;
   one_each : vec_len l.numbers ≡ l.key-index;

@@ -1,13 +1,14 @@
-use Rattle.conflict_pairs.proofs.Meaning.{IsRight-from_lists, IfOk_then, HasFall-from_lists}
+use Rattle.std.proofs.lemmas.Result.{IfOk-weaker}
+use Rattle.conflict_pairs.proofs.Meaning.{IsRight-from_lists, HasFall-from_lists}
 use Rattle.prog_paths.specs.Questions.{two, between}
 use Rattle.conflict_pairs.specs.Verdicts.{IsRight}
 use Rattle.conflict_pairs.proofs.judge.verdict.Goals as goal
 
 pub returns-clause-right : goal.returns-clause-right
 returns-clause-right c =
-    IfOk_then c.verdict_by_facts.result (λ v. IsRight (two c.args.x.now c.args.y.now) (between c.args.a c.args.b) v) c.verdict_by_facts.ensures.judged
+    IfOk-weaker c.verdict_by_facts.result _ (λ v. IsRight (two c.args.x.now c.args.y.now) (between c.args.a c.args.b) v)
     (λ v h. IsRight-from_lists c.args.x.now c.args.y.now c.args.a c.args.b c.as_slice-xs.result.now c.as_slice-ys.result.now _ _
-    c.requires.question c.requires.single_x c.requires.single_y c.as_slice-xs.ensures c.as_slice-ys.ensures v h)
+    c.requires.question c.requires.single_x c.requires.single_y c.as_slice-xs.ensures c.as_slice-ys.ensures v h) c.verdict_by_facts.ensures.judged
 
 pub returns-clause-at_once : goal.returns-clause-at_once
 returns-clause-at_once c =

@@ -2,7 +2,7 @@ use Rattle.std.proofs.Common.{List, subst, take_all, arith}
 use Rattle.std.specs.List.{AllZip}
 use Rattle.conflict_pairs.specs.declared.pairing.PlacePair.{PlacePair}
 use Rattle.conflict_pairs.specs.Interning.{IsServed}
-use Rattle.conflict_pairs.specs.Pairing.{IsOnPair}
+use Rattle.conflict_pairs.specs.Sharing.{IsOnPair}
 use Rattle.conflict_pairs.proofs.SharedVerdicts.{sound-more, served-more}
 use Rattle.conflict_pairs.proofs.judge.verdicts_of.Goals as goal
 
@@ -19,12 +19,11 @@ loop-pair-preserved c =
     let pairs = c.args.pairs.now in
     let k = c.loop-pair.pair-index in
     let old = c.loop-pair.verdicts.items in
-    let new = c.place_of.new.verdicts.items in
+    let new = c.number_of_verdict.new.verdicts.items in
     record {
-      slots = c.in_ok-number.ensures.slots;
       sound = sound-more paths places pairs old new k _ c.in_ok-verdict.verdict (c.requires k _ (omega arith)) c.in_ok-verdict.ensures c.in_ok-number.ensures.verdicts c.loop-pair.invariant.sound;
       served =
-          served-more paths places pairs old new c.loop-pair.numbers.items c.push_reserved.new.self.items k _ c.in_ok-verdict.verdict c.in_ok-number.number (omega arith) c.in_ok-verdict.ensures c.in_ok-number.ensures.verdicts c.in_ok-number.ensures.place c.push_reserved.ensures.items c.loop-pair.invariant.served;
+          served-more paths places pairs old new c.loop-pair.numbers.items c.push_reserved.new.self.items k _ c.in_ok-verdict.verdict c.in_ok-number.number (omega arith) c.in_ok-verdict.ensures c.in_ok-number.ensures.verdicts c.in_ok-number.ensures.number c.push_reserved.ensures.items c.loop-pair.invariant.served;
       one_each = omega (arith, c.push_reserved.ensures.len, c.loop-pair.invariant.one_each);
       room = omega (arith, c.push_reserved.ensures.capacity, c.loop-pair.invariant.room);
     }

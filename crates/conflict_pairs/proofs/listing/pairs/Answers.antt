@@ -2,7 +2,8 @@ use Rattle.std.proofs.Common.{List, sym, subst}
 use Rattle.std.specs.Prelude.{All}
 use Rattle.prog_paths.specs.declared.accesses.places.Placed.{Placed}
 use Rattle.conflict_pairs.specs.declared.pairing.PlacePair.{PlacePair}
-use Rattle.conflict_pairs.specs.Pairing.{IsAskedBetween, ArePairsJudged}
+use Rattle.conflict_pairs.specs.Pairing.{IsAskedBetween}
+use Rattle.conflict_pairs.specs.Sharing.{ArePairsJudged}
 use Rattle.conflict_pairs.proofs.Passing.{passed_iff}
 use Rattle.conflict_pairs.proofs.listing.pairs.Goals as goal
 

@@ -8,7 +8,8 @@ use Rattle.conflict_pairs.specs.declared.listing.Questions.{Questions}
 use Rattle.conflict_pairs.specs.declared.sharing.PairVerdicts.{PairVerdicts}
 use Rattle.conflict_pairs.specs.Interning.{IsServed}
 use Rattle.conflict_pairs.specs.Alike.{IsAsked, IsJudgedAt}
-use Rattle.conflict_pairs.specs.Pairing.{AreQuestionsOf, ArePairsJudged, question_at, questions_at}
+use Rattle.conflict_pairs.specs.Pairing.{AreQuestionsOf, question_at, questions_at}
+use Rattle.conflict_pairs.specs.Sharing.{ArePairsJudged}
 use Rattle.conflict_pairs.proofs.Zipped.{AllZip-lengths}
 use Rattle.conflict_pairs.proofs.Collecting.{all_asked}
 use Rattle.conflict_pairs.proofs.SharedVerdicts.{on-questions}

@@ -1,5 +1,5 @@
 use Rattle.std.proofs.Common.{◌≡◌, ◌+◌, length, length-append, ap, ◌∙◌, arith}
-use Rattle.conflict_pairs.specs.Table.{verdicts_in, numbers_in}
+use Rattle.conflict_pairs.specs.Sharing.{verdicts_in, numbers_in}
 use Rattle.conflict_pairs.proofs.Parts.{joined-more, joined-end, numbered-more, numbered-end}
 use Rattle.conflict_pairs.proofs.parallel.all_verdicts.Goals as goal
 

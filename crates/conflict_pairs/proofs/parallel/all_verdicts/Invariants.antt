@@ -1,5 +1,5 @@
 use Rattle.std.proofs.Common.{◌≡◌, ◌++◌, length}
-use Rattle.conflict_pairs.specs.Table.{verdicts_in, numbers_in}
+use Rattle.conflict_pairs.specs.Sharing.{verdicts_in, numbers_in}
 use Rattle.conflict_pairs.proofs.parallel.all_verdicts.Given as goal
 
 -- the verdicts and the numbers so far, with those of the parts that are left

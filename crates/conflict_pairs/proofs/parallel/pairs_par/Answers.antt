@@ -3,8 +3,8 @@ use Rattle.std.specs.Prelude.{All}
 use Rattle.prog_paths.specs.declared.accesses.places.Placed.{Placed}
 use Rattle.conflict_pairs.specs.declared.pairing.PlacePair.{PlacePair}
 use Rattle.conflict_pairs.specs.declared.verdicts.Verdict.{Verdict}
-use Rattle.conflict_pairs.specs.Pairing.{IsAskedBetween, ArePairsJudged}
-use Rattle.conflict_pairs.specs.Table.{verdicts_in, numbers_in}
+use Rattle.conflict_pairs.specs.Pairing.{IsAskedBetween}
+use Rattle.conflict_pairs.specs.Sharing.{ArePairsJudged, verdicts_in, numbers_in}
 use Rattle.conflict_pairs.proofs.Passing.{passed_iff}
 use Rattle.conflict_pairs.proofs.parallel.pairs_par.Goals as goal
 

@@ -5,7 +5,6 @@ use Rattle.prog_check.specs.Paths.{paths_of}
 use Rattle.prog_paths.specs.Questions.{questions_of}
 use Rattle.prog_paths.specs.Limits.{most_questions}
 use Rattle.prog_paths.specs.Few.{AreFew}
-use Rattle.prog_paths.proofs.SingleCells.{law_of_single_changes}
 use Rattle.conflict_pairs.specs.Table.{StandsFor}
 use Rattle.si_repair.specs.Findings.{IsRightFinding}
 use Rattle.si_repair.proofs.Analysing.{all_single, in_limit}
@@ -13,7 +12,7 @@ use Rattle.si_repair.proofs.analysis.certify.Goals as goal
 
 pub pairs-requires : goal.pairs-requires
 pairs-requires c = record {
-  single = all_single _ (paths_of (draft_tree c.args.set.now)) (c.deref.ensures.value ∙ c.in_ok-paths.ensures.exact) (law_of_single_changes (draft_tree c.args.set.now));
+  single = all_single _ _ c.deref.ensures.value c.in_ok-paths.ensures.single;
 }
 
 pub finding_of-requires : goal.finding_of-requires

@@ -5,14 +5,13 @@ use Rattle.prog_check.specs.Paths.{paths_of}
 use Rattle.prog_paths.specs.Questions.{questions_of}
 use Rattle.prog_paths.specs.Limits.{most_questions}
 use Rattle.prog_paths.specs.Few.{AreFew}
-use Rattle.prog_paths.proofs.SingleCells.{law_of_single_changes}
 use Rattle.conflict_pairs.specs.Table.{StandsFor}
 use Rattle.si_repair.specs.Findings.{IsRightFinding}
 use Rattle.si_repair.proofs.Analysing.{all_single, in_limit}
 use Rattle.si_repair.proofs.analysis.certify_par.Goals as goal
 
 pub pairs_par-requires-clause-single : goal.pairs_par-requires-clause-single
-pairs_par-requires-clause-single g c _ _ = all_single _ (paths_of (draft_tree c.args.set.now)) (c.deref.ensures.value ∙ c.in_ok-paths.ensures.exact) (law_of_single_changes (draft_tree c.args.set.now))
+pairs_par-requires-clause-single g c _ _ = all_single _ _ c.deref.ensures.value c.in_ok-paths.ensures.single
 
 pub finding_of-requires : goal.finding_of-requires
 finding_of-requires g c =

@@ -1,21 +1,18 @@
 use Rattle.std.proofs.Common.{◌≡◌, List, length, sym, subst, ap, ◌∙◌, arith}
-use Rattle.std.specs.Prelude.{All}
 use Rattle.std.proofs.lemmas.List.{length-map}
 use Rattle.prog_tree.specs.declared.program.Draft.{Draft}
 use Rattle.prog_tree.specs.Tree.{draft_tree, program_tree}
-use Rattle.prog_check.specs.declared.path.Path.{Path}
 use Rattle.prog_check.specs.Paths.{paths_of}
-use Rattle.prog_paths.specs.Questions.{ChangesSingleCells}
-use Rattle.prog_paths.proofs.SingleCells.{law_of_single_changes}
 use Rattle.repair_laws.specs.declared.plan.Pair.{Pair}
 use Rattle.repair_laws.specs.Plans.{IsPlan}
 use Rattle.repair_laws.proofs.PlanLaws.{law_of_plans}
+use Rattle.si_repair.proofs.Analysing.{all_single}
 use Rattle.si_repair.proofs.Turns.{in_range, planned}
 use Rattle.si_repair.proofs.plans.planning.plan.Goals as goal
 
 pub pairs-requires : goal.pairs-requires
 pairs-requires c = record {
-  single = subst (λ (l : List Path). All ChangesSingleCells l) (sym (c.deref.ensures.value ∙ c.in_ok-paths.ensures.exact)) (law_of_single_changes (draft_tree c.args.set.now));
+  single = all_single _ _ c.deref.ensures.value c.in_ok-paths.ensures.single;
 }
 
 is_plan : (c : goal.After-drop-paths-2) → IsPlan (paths_of (draft_tree c.args.set.now)) c.from_vec.result

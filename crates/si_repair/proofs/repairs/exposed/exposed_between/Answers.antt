@@ -1,6 +1,6 @@
+use Rattle.std.proofs.lemmas.Result.{IfOk-weaker}
 use Rattle.prog_paths.specs.Questions.{numbers_of, question_between}
 use Rattle.conflict_pairs.specs.Verdicts.{TellsExposed}
-use Rattle.conflict_pairs.proofs.Meaning.{IfOk_then}
 use Rattle.conflict_pairs.proofs.Moving.{TellsExposed-placed}
 use Rattle.si_repair.proofs.repairs.exposed.exposed_between.Goals as goal
 
@@ -9,5 +9,5 @@ returns c =
     let nodes = c.args.paths.now in
     let first = c.args.first.now in
     let second = c.args.second.now in
-    IfOk_then c.is_exposed_question.result (λ told. TellsExposed nodes (numbers_of (question_between first second)) told) c.is_exposed_question.ensures.exposed
-    (λ told h. TellsExposed-placed nodes first second c.index-paths-first.result c.index-paths-second.result c.requires.first c.requires.second c.index-paths-first.is c.index-paths-second.is told h)
+    IfOk-weaker c.is_exposed_question.result _ (λ told. TellsExposed nodes (numbers_of (question_between first second)) told)
+    (λ told h. TellsExposed-placed nodes first second c.index-paths-first.result c.index-paths-second.result c.requires.first c.requires.second c.index-paths-first.is c.index-paths-second.is told h) c.is_exposed_question.ensures.exposed
