@@ -154,6 +154,8 @@ fn chains_go_by_facts_and_by_numbers(rt: HostRuntime) {
     assert!(rt; !is_chain(&IN_A_LIST, &[]));
     let closed = Closed::of(rt.alloc(), &IN_A_LIST).expect(&rt, "memory");
     assert!(rt; closed.entails(KEY, C) && !closed.entails(ONE, KEY));
+    assert!(rt; closed.has_step(KEY, ONE) && closed.has_step(ONE, FIVE));
+    assert!(rt; !closed.has_step(KEY, FIVE) && !closed.has_step(ONE, KEY));
     drop(closed);
 }
 

@@ -246,6 +246,35 @@ fn questions_that_are_alike_share_a_verdict(rt: HostRuntime) -> Result<(), Fail>
     Ok(())
 }
 
+/// Programs whose nine questions are between numbers, no two of them alike: three exposed, one
+/// covered, two apart by the chain 2, 1, two by 3, 1, one by 3, 2.
+const APART_ALIKE: &str = "\
+table t 1;
+program One() { put t[1] = 0; let a = get t[1] else 0; }
+program Other() { put t[2] = 0; put t[3] = 0; }
+";
+
+/// How many questions a table has, and how many verdicts.
+fn counts(rt: &impl Abort, table: Result<PairTable, PairFault>) -> (usize, usize) {
+    let table = table.expect(rt, "a table");
+    let counts = (table.len(), table.verdicts().len());
+    drop(table);
+    counts
+}
+
+#[test]
+fn equal_verdicts_are_kept_once(rt: HostRuntime) -> Result<(), Fail> {
+    let paths = paths_of(rt.alloc(), APART_ALIKE)?;
+    let table = table_of(&rt, rt.alloc(), &paths);
+    let by_threads = table_of_threads(&rt, rt.alloc(), &paths);
+    drop(paths);
+    let counted = counts(&rt, table);
+    let counted_by_threads = counts(&rt, by_threads);
+    assert!(rt; counted == (9, 7));
+    assert!(rt; counted_by_threads == (9, 7));
+    Ok(())
+}
+
 #[test]
 fn more_than_a_million_questions_are_too_many(rt: HostRuntime) -> Result<(), Fail> {
     let paths = wide_paths(rt.alloc(), 2)?;
