@@ -1,5 +1,5 @@
 -- What was told and settled gives what is promised of work.
-use Rattle.std.proofs.Common.{◌≡◌, ◌<◌, ℕ, zero, suc, false, refl, sym, subst, ap, ◌∙◌, arith, inl, inr, List, [], ◌∷◌, length, map, zip, Option, Some, None, Result, Ok, Err, IfOk, IfErr}
+use Rattle.std.proofs.Common.{◌≡◌, ◌<◌, ℕ, zero, suc, false, refl, sym, subst, ap, ◌∙◌, arith, inl, inr, List, [], ◌∷◌, length, map, zip, Option, Some, None, Result, Ok, Err, IfOk, IfErr, IfSome}
 use Rattle.std.proofs.lemmas.List.{length-map}
 use Rattle.std.proofs.lemmas.Option.{same_Some}
 use Rattle.prog_tree.specs.declared.program.Draft.{Draft}
@@ -13,17 +13,18 @@ use Rattle.history_book.specs.View.{BookView}
 use Rattle.si_workers.specs.Assigned.{Assigned, assigned}
 use Rattle.si_workers.specs.KeptAndTold.{Tidings}
 use Rattle.si_workers.specs.Outcomes.{Correspond, IsOver, OutcomesCorrespond, tidings_of}
-use Rattle.si_workers.specs.Settled.{AreOutcomesIn, AreToldRight, AreToldWrong, IsConcluded, IsHandedOut, IsSettled, lack_memory}
+use Rattle.si_workers.specs.Settled.{AreOutcomesIn, AreToldRight, AreToldWrong, IsConcluded, IsHandedOut, IsOrderOf, IsPutInOrder, IsSettled, lack_memory}
 use Rattle.si_workers.specs.Work.{AreTaken, IsNamed, IsTrueOver, IsWorkFault, jobs_by}
 use Rattle.si_workers.specs.declared.fault.WorkFault.{WorkFault}
 use Rattle.si_workers.specs.declared.fault.WorkFault.TheVariants.{Workers, TooManyJobs, NoThread, Broken, Memory}
 use Rattle.si_workers.specs.declared.job.Job.{Job}
 use Rattle.si_workers.specs.declared.job.JobOutcome.{JobOutcome}
 use Rattle.si_workers.specs.declared.run.Finished.{Finished}
+use Rattle.si_workers.specs.declared.run.Worked.{Worked}
 use Rattle.si_workers.specs.declared.worker.Done.{Done}
 
 -- a book over a set without a dangerous structure is over such a set
-pub safe-over : (given : Assigned) (v : BookView) → IsOver given v → (IsDangerous (paths_of given.set) → ⊥) → IsDangerous (paths_of (draft_tree v.set)) → ⊥
+safe-over : (given : Assigned) (v : BookView) → IsOver given v → (IsDangerous (paths_of given.set) → ⊥) → IsDangerous (paths_of (draft_tree v.set)) → ⊥
 safe-over given v over safe = subst (λ (t : DraftTree). IsDangerous (paths_of t) → ⊥) (sym over.same_set) safe
 
 -- where some thread started all jobs were done
@@ -59,14 +60,9 @@ module _ (given : Assigned) (jobs : List Job) (done : List Done) (v : BookView) 
   named-told job outcome wrong = record { ts = wrong.ts; of_jobs = wrong.told.of_jobs; broken = wrong.broken; its_outcome = wrong.its_outcome }
 
   -- outcomes that the workers told right settle their work, however it is concluded
-  pub conclude-settled : (outcomes : List JobOutcome) (r : Result Finished WorkFault) → lack_memory done ≡ false → AreToldRight given jobs done v outcomes → IsConcluded given.workers (length done) outcomes v r → IsSettled given jobs done v r
-  conclude-settled outcomes (Ok finished) lack right concluded = (
-    lack,
-    concluded.0,
-    concluded.2,
-    subst (AreToldRight given jobs done v) (sym concluded.1) right,
-    concluded.3,
-  )
+  pub conclude-settled : (outcomes : List JobOutcome) (r : Result Worked WorkFault) → lack_memory done ≡ false → AreToldRight given jobs done v outcomes → IsConcluded given.workers (length done) outcomes v r → IsSettled given jobs done v r
+  conclude-settled outcomes (Ok worked) lack right concluded =
+      (lack, concluded.0, concluded.2, subst (AreToldRight given jobs done v) (sym concluded.1) right)
   conclude-settled outcomes (Err Workers) lack right concluded = absurd concluded
   conclude-settled outcomes (Err TooManyJobs) lack right concluded = absurd concluded
   conclude-settled outcomes (Err (NoThread started told book)) lack right concluded = (
@@ -77,14 +73,14 @@ module _ (given : Assigned) (jobs : List Job) (done : List Done) (v : BookView) 
     subst (AreToldRight given jobs done v) (sym concluded.2) right,
   )
   conclude-settled outcomes (Err (Broken job outcome book)) lack right concluded = absurd concluded
-  conclude-settled outcomes (Err (Memory book)) lack right concluded = inl (right.correspond.over, concluded)
+  conclude-settled outcomes (Err (Memory book)) lack right concluded = absurd concluded
 
   -- outcomes and book correspond where work is settled well
-  correspond-settled : (r : Result Finished WorkFault) → 0 < given.workers → IsSettled given jobs done v r → IfOk r (λ finished. OutcomesCorrespond given jobs finished.outcomes finished.book)
-  correspond-settled (Ok finished) some settled =
+  correspond-settled : (r : Result Worked WorkFault) → 0 < given.workers → IsSettled given jobs done v r → IfOk r (λ worked. OutcomesCorrespond given jobs worked.outcomes worked.book)
+  correspond-settled (Ok worked) some settled =
       let all = jobs-some (length done) jobs (omega (arith, some, settled.1)) in
-      subst (λ (book : BookView). OutcomesCorrespond given jobs finished.outcomes book) (sym settled.2)
-      (subst (λ (js : List Job). OutcomesCorrespond given js finished.outcomes v) all (outcomes-told finished.outcomes settled.3))
+      subst (λ (book : BookView). OutcomesCorrespond given jobs worked.outcomes book) (sym settled.2)
+      (subst (λ (js : List Job). OutcomesCorrespond given js worked.outcomes v) all (outcomes-told worked.outcomes settled.3))
   correspond-settled (Err fault) some settled = tt
 
   -- what is handed out where memory ran out
@@ -94,8 +90,8 @@ module _ (given : Assigned) (jobs : List Job) (done : List Done) (v : BookView) 
   handed-out (Some book) taken holds (inr out) = absurd (cc)
 
   -- what is handed out where work is settled by a fault
-  fault-settled : (r : Result Finished WorkFault) → AreTaken given.workers jobs → IsTrueBook v → IsSettled given jobs done v r → IfErr r (IsWorkFault given jobs)
-  fault-settled (Ok finished) taken holds settled = tt
+  fault-settled : (r : Result Worked WorkFault) → AreTaken given.workers jobs → IsTrueBook v → IsSettled given jobs done v r → IfErr r (IsWorkFault given jobs)
+  fault-settled (Ok worked) taken holds settled = tt
   fault-settled (Err Workers) taken holds settled = absurd settled
   fault-settled (Err TooManyJobs) taken holds settled = absurd settled
   fault-settled (Err (NoThread started outcomes book)) taken holds settled = (
@@ -121,9 +117,9 @@ same-given workers set of kept opening same_set same_rows =
 
 -- what is promised of work that was settled as it was given
 pub promised :
-    (kept given : Assigned) (jobs : List Job) (done : List Done) (v : BookView) (r : Result Finished WorkFault) →
+    (kept given : Assigned) (jobs : List Job) (done : List Done) (v : BookView) (r : Result Worked WorkFault) →
     kept ≡ given → AreTaken given.workers jobs → IsTrueBook v → IsSettled kept jobs done v r →
-    IfOk r (λ finished. OutcomesCorrespond given jobs finished.outcomes finished.book) × IfErr r (IsWorkFault given jobs)
+    IfOk r (λ worked. OutcomesCorrespond given jobs worked.outcomes worked.book) × IfErr r (IsWorkFault given jobs)
 promised kept given jobs done v r same taken holds as_kept =
     let settled = subst (λ (a : Assigned). IsSettled a jobs done v r) same as_kept in (
       correspond-settled given jobs done v r taken.number.0 settled,
@@ -136,3 +132,45 @@ pub promised-lacking :
     kept ≡ given → AreTaken given.workers jobs → IsTrueBook v → IsHandedOut kept v book → IsWorkFault given jobs (Memory book)
 promised-lacking kept given jobs v book same taken holds as_kept =
     handed-out given jobs [] v book taken holds (subst (λ (a : Assigned). IsHandedOut a v book) same as_kept)
+
+-- work that corresponds to a book over a set without a dangerous structure
+pub safe-work :
+    (given : Assigned) (jobs : List Job) (r : Result Worked WorkFault) → (IsDangerous (paths_of given.set) → ⊥) →
+    IfOk r (λ worked. OutcomesCorrespond given jobs worked.outcomes worked.book) →
+    IfOk r (λ worked. IsDangerous (paths_of (draft_tree worked.book.set)) → ⊥)
+safe-work given jobs (Ok worked) safe correspond = safe-over given worked.book correspond.1.over safe
+safe-work given jobs (Err fault) safe correspond = tt
+
+-- ---- work in the order of its commits
+
+module _ (given : Assigned) (jobs : List Job) (worked : Worked) where
+  -- a true book stays one
+  pub ordered-true : (r : Result Finished WorkFault) → IsPutInOrder worked r → IsTrueBook worked.book → IfOk r (λ finished. IsTrueBook finished.book)
+  ordered-true (Ok finished) ordered holds = subst IsTrueBook (sym ordered.1) holds
+  ordered-true (Err fault) ordered holds = tt
+
+  -- outcomes and book correspond as they did
+  pub ordered-correspond :
+      (r : Result Finished WorkFault) → IsPutInOrder worked r → OutcomesCorrespond given jobs worked.outcomes worked.book →
+      IfOk r (λ finished. OutcomesCorrespond given jobs finished.outcomes finished.book)
+  ordered-correspond (Ok finished) ordered correspond =
+      subst (λ (book : BookView). OutcomesCorrespond given jobs finished.outcomes book) (sym ordered.1)
+      (subst (λ (outcomes : List JobOutcome). OutcomesCorrespond given jobs outcomes worked.book) (sym ordered.0) correspond)
+  ordered-correspond (Err fault) ordered correspond = tt
+
+  -- the order is that of the book that is handed out
+  pub ordered-order : (r : Result Finished WorkFault) → IsPutInOrder worked r → IfOk r (λ finished. IsOrderOf finished.book finished.order)
+  ordered-order (Ok finished) ordered = subst (λ (book : BookView). IsOrderOf book finished.order) (sym ordered.1) ordered.2
+  ordered-order (Err fault) ordered = tt
+
+  -- where memory ran out for the order, the book that is handed out is a true one
+  pub ordered-fault :
+      (r : Result Finished WorkFault) → IsPutInOrder worked r → AreTaken given.workers jobs → IsTrueBook worked.book →
+      OutcomesCorrespond given jobs worked.outcomes worked.book → IfErr r (IsWorkFault given jobs)
+  ordered-fault (Ok finished) ordered taken holds correspond = tt
+  ordered-fault (Err Workers) ordered taken holds correspond = absurd ordered
+  ordered-fault (Err TooManyJobs) ordered taken holds correspond = absurd ordered
+  ordered-fault (Err (NoThread started outcomes book)) ordered taken holds correspond = absurd ordered
+  ordered-fault (Err (Broken job outcome book)) ordered taken holds correspond = absurd ordered
+  ordered-fault (Err (Memory book)) ordered taken holds correspond =
+      (taken, subst (λ (b : Option BookView). IfSome b (IsTrueOver given)) (sym ordered) (holds, correspond.1.over))

@@ -15,6 +15,7 @@ use Rattle.si_workers.specs.declared.job.JobOutcome.{JobOutcome}
 use Rattle.si_workers.specs.declared.run.Compared.{Compared}
 use Rattle.si_workers.specs.declared.run.Compared.TheVariants as compared
 use Rattle.si_workers.specs.declared.run.Finished.{Finished}
+use Rattle.si_workers.specs.declared.run.Worked.{Worked}
 use Rattle.si_workers.specs.declared.worker.Done.{Done}
 
 -- memory ran out in some worker
@@ -42,18 +43,12 @@ pub record IsWorkCompared (given : Assigned) (jobs : List Job) (done : List Done
     pub told : AreToldBy jobs done ts
     pub compared : IsCompared given ts v c
 
--- the order is the least, and fits
-pub record IsOrderOf (v : BookView) (order : List ℕ) : Type 0 where
-  pub least : least_order (depends_in v) (length v.rows) ≡ Some order
-  pub fits : FitsBook v order
-
 -- outcomes and book are handed out, where enough workers started
-abbrev pub IsConcluded : (workers started : ℕ) → List JobOutcome → BookView → Result Finished WorkFault → Type 0
-IsConcluded workers started outcomes v (Ok finished) =
-    (workers ≤ started) × (finished.outcomes ≡ outcomes) × (finished.book ≡ v) × IsOrderOf v finished.order
+abbrev pub IsConcluded : (workers started : ℕ) → List JobOutcome → BookView → Result Worked WorkFault → Type 0
+IsConcluded workers started outcomes v (Ok worked) =
+    (workers ≤ started) × (worked.outcomes ≡ outcomes) × (worked.book ≡ v)
 IsConcluded workers started outcomes v (Err (NoThread number told book)) =
     (started < workers) × (number ≡ started) × (told ≡ outcomes) × (book ≡ v)
-IsConcluded workers started outcomes v (Err (Memory book)) = book ≡ Some v
 IsConcluded workers started outcomes v (Err other) = ⊥
 
 -- the outcomes that the workers told correspond to the book
@@ -77,10 +72,10 @@ abbrev pub IsHandedOut : Assigned → BookView → Option BookView → Type 0
 IsHandedOut given v book = (IsOver given v × (book ≡ Some v)) ⊎ ((IsOver given v → ⊥) × (book ≡ None))
 
 -- Memory goes before Broken, and Broken before NoThread; the book is handed out as it is
-abbrev pub IsSettled : Assigned → List Job → List Done → BookView → Result Finished WorkFault → Type 0
-IsSettled given jobs done v (Ok finished) =
-    (lack_memory done ≡ false) × (given.workers ≤ length done) × (finished.book ≡ v)
-    × AreToldRight given jobs done v finished.outcomes × IsOrderOf v finished.order
+abbrev pub IsSettled : Assigned → List Job → List Done → BookView → Result Worked WorkFault → Type 0
+IsSettled given jobs done v (Ok worked) =
+    (lack_memory done ≡ false) × (given.workers ≤ length done) × (worked.book ≡ v)
+    × AreToldRight given jobs done v worked.outcomes
 IsSettled given jobs done v (Err (NoThread started outcomes book)) =
     (lack_memory done ≡ false) × (started ≡ length done) × (started < given.workers) × (book ≡ v)
     × AreToldRight given jobs done v outcomes
@@ -88,3 +83,15 @@ IsSettled given jobs done v (Err (Broken job outcome book)) =
     (lack_memory done ≡ false) × (book ≡ v) × AreToldWrong given jobs done v job outcome
 IsSettled given jobs done v (Err (Memory book)) = IsHandedOut given v book
 IsSettled given jobs done v (Err other) = ⊥
+
+-- the order is the least, and fits
+pub record IsOrderOf (v : BookView) (order : List ℕ) : Type 0 where
+  pub least : least_order (depends_in v) (length v.rows) ≡ Some order
+  pub fits : FitsBook v order
+
+-- outcomes and book are those of the work, in the order of its commits; where memory runs out the book is handed out
+abbrev pub IsPutInOrder : Worked → Result Finished WorkFault → Type 0
+IsPutInOrder worked (Ok finished) =
+    (finished.outcomes ≡ worked.outcomes) × (finished.book ≡ worked.book) × IsOrderOf worked.book finished.order
+IsPutInOrder worked (Err (Memory book)) = book ≡ Some worked.book
+IsPutInOrder worked (Err other) = ⊥

@@ -27,5 +27,5 @@ pub use gate::{Gate, Moment, NoGate};
 pub use job::{Job, JobEnd, JobOutcome, Way};
 pub use job_list::{JobList, read_jobs};
 pub use limits::{MAX_JOBS, MAX_WORKERS};
-pub use run::{Finished, run_jobs};
+pub use run::{Finished, Worked, do_jobs, run_jobs};
 pub use shared::SharedBook;

@@ -8,7 +8,8 @@ ghost use Rattle.history_book.specs.TrueBook.{IsTrueBook};
 ghost use Rattle.si_workers.specs.Assigned.{assigned, assigned_by};
 ghost use Rattle.si_workers.specs.Outcomes.{OutcomesCorrespond};
 ghost use Rattle.si_workers.specs.Settled.{AreOutcomesIn, IsCompared, IsConcluded, IsHandedOut};
-ghost use Rattle.si_workers.specs.Settled.{IsOrderOf, IsSettled, IsWorkCompared, lack_memory};
+ghost use Rattle.si_workers.specs.Settled.{IsOrderOf, IsPutInOrder, IsSettled, IsWorkCompared};
+ghost use Rattle.si_workers.specs.Settled.{lack_memory};
 ghost use Rattle.si_workers.specs.Work.{AreTaken, IsWorkFault, jobs_by, outcome_at};
 
 use crate::assignment::Assignment;
@@ -28,6 +29,13 @@ use si_engine::order_of;
 use std::alloc::{AllocError, Global};
 use std::sync::Wait;
 use std::thread::Threads;
+
+/// What came of jobs: the outcome of each, and the book.
+#[derive(Debug, Drop)]
+pub struct Worked<'a> {
+    pub outcomes: Sequence<JobOutcome>,
+    pub book: Book<'a>,
+}
 
 /// What came of jobs: the outcome of each, a serial order of the commits, and the book.
 #[derive(Debug, Drop)]
@@ -126,14 +134,13 @@ fn book_over<'a>(given: Assignment<'_>, book: Book<'a>) -> Option<Book<'a>>
     }
 }
 
-// Work whose outcomes correspond to the book, and which is in order where enough workers started.
+// Work whose outcomes correspond to the book, and which is well where enough workers started.
 fn conclude<'a>(
     workers: usize,
     started: usize,
     outcomes: Vec<JobOutcome>,
     book: Book<'a>,
-) -> Result<Finished<'a>, WorkFault<'a>>
-    requires safe { ¬ IsDangerous (paths_of (draft_tree book.set)) }
+) -> Result<Worked<'a>, WorkFault<'a>>
     ensures { IsConcluded workers started outcomes.items book.entry result }
 {
     let outcomes = Sequence::from_vec(outcomes);
@@ -144,14 +151,7 @@ fn conclude<'a>(
             book,
         });
     }
-    let Ok(order) = order_of(&book) else {
-        return Err(WorkFault::Memory { book: Some(book) });
-    };
-    Ok(Finished {
-        outcomes,
-        order: Sequence::from_vec(order),
-        book,
-    })
+    Ok(Worked { outcomes, book })
 }
 
 // What workers did, compared with the book that they leave: memory lacks where some worker lacked
@@ -179,8 +179,7 @@ fn settle<'a>(
     jobs: &[Job],
     done: Vec<Done>,
     book: Book<'a>,
-) -> Result<Finished<'a>, WorkFault<'a>>
-    requires safe { ¬ IsDangerous (paths_of (draft_tree given.set.now)) }
+) -> Result<Worked<'a>, WorkFault<'a>>
     ensures { IsSettled (assigned_by given.entry) jobs.now done.items book.entry result }
 {
     let started = done.len();
@@ -195,7 +194,7 @@ fn settle<'a>(
 }
 
 /// Runs jobs by so many workers at once, and compares what they tell with the book that they leave.
-pub fn run_jobs<'a, R: Threads + Wait + Sync, G: Gate + Sync>(
+pub fn do_jobs<'a, R: Threads + Wait + Sync, G: Gate + Sync>(
     rt: &R,
     alloc: Global,
     set: &'a RobustSet,
@@ -203,13 +202,14 @@ pub fn run_jobs<'a, R: Threads + Wait + Sync, G: Gate + Sync>(
     jobs: &[Job],
     workers: usize,
     gate: &G,
-) -> Result<Finished<'a>, WorkFault<'a>>
-    ensures taken { IfOk result (λ finished. AreTaken workers jobs.now) }
-    ensures true_book { IfOk result (λ finished. IsTrueBook finished.book) }
-    ensures correspond { IfOk result (λ finished.
+) -> Result<Worked<'a>, WorkFault<'a>>
+    ensures taken { IfOk result (λ worked. AreTaken workers jobs.now) }
+    ensures true_book { IfOk result (λ worked. IsTrueBook worked.book) }
+    ensures correspond { IfOk result (λ worked.
         OutcomesCorrespond (assigned workers (draft_tree set.now) opening) jobs.now
-        finished.outcomes finished.book) }
-    ensures order { IfOk result (λ finished. IsOrderOf finished.book finished.order) }
+        worked.outcomes worked.book) }
+    ensures safe { IfOk result (λ worked.
+        ¬ IsDangerous (paths_of (draft_tree worked.book.set))) }
     ensures fault { IfErr result
         (IsWorkFault (assigned workers (draft_tree set.now) opening) jobs.now) }
 {
@@ -239,4 +239,43 @@ pub fn run_jobs<'a, R: Threads + Wait + Sync, G: Gate + Sync>(
         return Err(WorkFault::Memory { book });
     };
     settle(alloc, given, jobs, done, book)
+}
+
+// Work in the order of its commits.
+fn in_order<'a>(worked: Worked<'a>) -> Result<Finished<'a>, WorkFault<'a>>
+    requires safe { ¬ IsDangerous (paths_of (draft_tree worked.book.set)) }
+    ensures { IsPutInOrder worked.entry result }
+{
+    let Worked { outcomes, book } = worked;
+    let Ok(order) = order_of(&book) else {
+        return Err(WorkFault::Memory { book: Some(book) });
+    };
+    Ok(Finished {
+        outcomes,
+        order: Sequence::from_vec(order),
+        book,
+    })
+}
+
+/// As `do_jobs`, with a serial order of the commits.
+pub fn run_jobs<'a, R: Threads + Wait + Sync, G: Gate + Sync>(
+    rt: &R,
+    alloc: Global,
+    set: &'a RobustSet,
+    opening: Rows,
+    jobs: &[Job],
+    workers: usize,
+    gate: &G,
+) -> Result<Finished<'a>, WorkFault<'a>>
+    ensures taken { IfOk result (λ finished. AreTaken workers jobs.now) }
+    ensures true_book { IfOk result (λ finished. IsTrueBook finished.book) }
+    ensures correspond { IfOk result (λ finished.
+        OutcomesCorrespond (assigned workers (draft_tree set.now) opening) jobs.now
+        finished.outcomes finished.book) }
+    ensures order { IfOk result (λ finished. IsOrderOf finished.book finished.order) }
+    ensures fault { IfErr result
+        (IsWorkFault (assigned workers (draft_tree set.now) opening) jobs.now) }
+{
+    let worked = do_jobs(rt, alloc, set, opening, jobs, workers, gate)?;
+    in_order(worked)
 }

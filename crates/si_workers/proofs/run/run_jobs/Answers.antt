@@ -1,44 +1,25 @@
-use Rattle.std.proofs.Common.{arith, sym, subst}
-use Rattle.prog_tree.specs.declared.program.Draft.{Draft}
 use Rattle.prog_tree.specs.Tree.{draft_tree}
-use Rattle.prog_check.specs.Paths.{paths_of}
-use Rattle.prog_paths.specs.StaticGraph.{IsDangerous}
 use Rattle.si_workers.specs.Assigned.{assigned}
-use Rattle.si_workers.specs.Work.{AreTaken}
-use Rattle.si_workers.proofs.RunLaws.{promised, promised-lacking, same-given}
+use Rattle.si_workers.proofs.RunLaws.{ordered-true, ordered-correspond, ordered-order, ordered-fault}
 use Rattle.si_workers.proofs.run.run_jobs.Goals as goal
 
-pub settle-requires : goal.settle-requires
-settle-requires g c = record {
-  safe = subst (λ (set : Draft). IsDangerous (paths_of (draft_tree set)) → ⊥) (sym c.set-programs.ensures.same) c.set-programs.ensures.safe;
-}
-
-pub returns-clause-fault : goal.returns-clause-fault
-returns-clause-fault g c =
+pub returns-clause-true_book : goal.returns-clause-true_book
+returns-clause-true_book g c =
     let given = assigned c.args.workers (draft_tree c.args.set.now) c.args.opening in
-    let same = same-given c.args.workers c.set-programs.result.now c.args.set.now _ c.args.opening c.set-programs.ensures.same c.in-Ok.ensures in
-    let taken : AreTaken c.args.workers c.args.jobs.now = record {
-      number = (omega (arith, c.if-workers-eq0.false), omega (arith, c.if-workers-gt-MAX_WORKERS.false));
-      few = omega (arith, c.if-jobs-gt-MAX_JOBS.false);
-    } in
-    (promised _ given c.args.jobs.now c.in-Ok-ran.done.items _ c.settle.result same taken c.into_book-book.ensures c.settle.ensures).1
-
-pub returns-in_default-ran-clause-fault : goal.returns-in_default-ran-clause-fault
-returns-in_default-ran-clause-fault g c =
-    let given = assigned c.args.workers (draft_tree c.args.set.now) c.args.opening in
-    let same = same-given c.args.workers c.set-programs.result.now c.args.set.now _ c.args.opening c.set-programs.ensures.same c.in-Ok.ensures in
-    let taken : AreTaken c.args.workers c.args.jobs.now = record {
-      number = (omega (arith, c.if-workers-eq0.false), omega (arith, c.if-workers-gt-MAX_WORKERS.false));
-      few = omega (arith, c.if-jobs-gt-MAX_JOBS.false);
-    } in
-    promised-lacking _ given c.args.jobs.now _ c.book_over-book.result same taken c.into_book-book.ensures c.book_over-book.ensures
+    ordered-true given c.args.jobs.now c.in_ok-worked.worked c.in_order.result c.in_order.ensures c.in_ok-worked.ensures.true_book
 
 pub returns-clause-correspond : goal.returns-clause-correspond
 returns-clause-correspond g c =
     let given = assigned c.args.workers (draft_tree c.args.set.now) c.args.opening in
-    let same = same-given c.args.workers c.set-programs.result.now c.args.set.now _ c.args.opening c.set-programs.ensures.same c.in-Ok.ensures in
-    let taken : AreTaken c.args.workers c.args.jobs.now = record {
-      number = (omega (arith, c.if-workers-eq0.false), omega (arith, c.if-workers-gt-MAX_WORKERS.false));
-      few = omega (arith, c.if-jobs-gt-MAX_JOBS.false);
-    } in
-    (promised _ given c.args.jobs.now c.in-Ok-ran.done.items _ c.settle.result same taken c.into_book-book.ensures c.settle.ensures).0
+    ordered-correspond given c.args.jobs.now c.in_ok-worked.worked c.in_order.result c.in_order.ensures c.in_ok-worked.ensures.correspond
+
+pub returns-clause-order : goal.returns-clause-order
+returns-clause-order g c =
+    let given = assigned c.args.workers (draft_tree c.args.set.now) c.args.opening in
+    ordered-order given c.args.jobs.now c.in_ok-worked.worked c.in_order.result c.in_order.ensures
+
+pub returns-clause-fault : goal.returns-clause-fault
+returns-clause-fault g c =
+    let given = assigned c.args.workers (draft_tree c.args.set.now) c.args.opening in
+    ordered-fault given c.args.jobs.now c.in_ok-worked.worked c.in_order.result c.in_order.ensures c.in_ok-worked.ensures.taken
+    c.in_ok-worked.ensures.true_book c.in_ok-worked.ensures.correspond

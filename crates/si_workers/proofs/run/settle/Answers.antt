@@ -2,7 +2,7 @@ use Rattle.std.proofs.Common.{◌≡◌, ℕ, length, refl, subst, arith}
 use Rattle.si_workers.specs.Assigned.{assigned_by}
 use Rattle.si_workers.specs.Settled.{IsConcluded, IsWorkCompared}
 use Rattle.si_workers.specs.declared.run.Compared.TheVariants.{Correspond}
-use Rattle.si_workers.proofs.RunLaws.{conclude-settled, safe-over}
+use Rattle.si_workers.proofs.RunLaws.{conclude-settled}
 use Rattle.si_workers.proofs.run.settle.Goals as goal
 use Rattle.si_workers.proofs.run.settle.Goals.{In-Ok-Correspond}
 
@@ -10,11 +10,6 @@ use Rattle.si_workers.proofs.run.settle.Goals.{In-Ok-Correspond}
 compared-right : (c : In-Ok-Correspond) → IsWorkCompared (assigned_by c.args.given) c.args.jobs.now c.args.done.items c.args.book (Correspond c.in-Ok-Correspond.outcomes)
 compared-right c =
     subst (IsWorkCompared (assigned_by c.args.given) c.args.jobs.now c.args.done.items c.args.book) c.in-Ok-Correspond.field-0-is c.in-Ok-Correspond.ensures
-
-pub conclude-requires : goal.conclude-requires
-conclude-requires c =
-    let right = compared-right c in
-    record { safe = safe-over (assigned_by c.args.given) c.args.book right.compared.0.over c.requires.safe }
 
 pub returns-in-Ok-Correspond : goal.returns-in-Ok-Correspond
 returns-in-Ok-Correspond c =
