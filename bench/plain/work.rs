@@ -1,7 +1,7 @@
 //! Lists of jobs, run by workers over one store under one lock, which looks share, and then compared with what the
 //! store kept.
 use crate::engine::{Cause, Cell, Run, Snapshots, Stop, Store};
-use crate::order::{Order, Trace, serial_order};
+use crate::order::Trace;
 use crate::program::Set;
 use crate::script;
 use std::collections::BTreeMap;
@@ -257,7 +257,6 @@ pub fn run(set: &Set, lines: &str, workers: usize, out: &mut String) {
     let book = shared.0.into_inner().unwrap();
     let outcomes = gather(&jobs, done);
     compare(&jobs, &outcomes, &book);
-    assert!(matches!(serial_order(&book.traces), Order::Serial(_)), "a cycle");
     let count = |is: fn(&End) -> bool| outcomes.iter().filter(|outcome| is(&outcome.end)).count();
     let _ = writeln!(out, "committed {}", count(|end| matches!(end, End::Committed { .. })));
     let _ = writeln!(out, "aborted {}", count(|end| matches!(end, End::Aborted)));

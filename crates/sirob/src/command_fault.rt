@@ -12,6 +12,7 @@ use si_engine::{InputFault, LineFault, PartFault};
 use si_repair::{AnalyseFault, RepairFault};
 use si_workers::WorkFault;
 use std::alloc::{AllocError, Global};
+use std::fmt;
 
 /// A fault, by the layer that finds it.
 #[derive(Clone, Copy, Debug, PartialEq, Eq)]
@@ -29,24 +30,34 @@ pub enum CommandFault {
     Work(WorkerFault),
 }
 
+impl fmt::Display for CommandFault {
+    ghost use Rattle.std.specs.Prelude.{Some};
+    ghost use Rattle.sirob.specs.FaultLines.{fault_text};
+
+    ghost output = { λ fault. Some (fault_text fault) };
+
+    fn fmt<W: fmt::Write>(&self, f: &mut fmt::Formatter<W>) -> fmt::Result {
+        match self {
+            CommandFault::Input(fault) => write!(f, "{fault}"),
+            CommandFault::Split(fault) => write!(f, "{fault}"),
+            CommandFault::Text(fault) => write!(f, "{fault}"),
+            CommandFault::Check(fault) => write!(f, "{fault}"),
+            CommandFault::Analysis(fault) => write!(f, "{fault}"),
+            CommandFault::Repair(fault) => write!(f, "{fault}"),
+            CommandFault::Json(fault) => write!(f, "{fault}"),
+            CommandFault::Certificate(fault) => write!(f, "{fault}"),
+            CommandFault::Part(fault) => write!(f, "{fault}"),
+            CommandFault::Audit(fault) => write!(f, "{fault}"),
+            CommandFault::Work(fault) => write!(f, "{fault}"),
+        }
+    }
+}
+
 /// The line that a fault is, with its line feed.
 pub fn fault_line(alloc: Global, fault: CommandFault) -> Result<String, AllocError>
     ensures { IfOk result (λ line. string_bytes line ≡ fault_line fault) }
 {
-    let text = match fault {
-        CommandFault::Input(fault) => format!(in alloc; "{fault}")?,
-        CommandFault::Split(fault) => format!(in alloc; "{fault}")?,
-        CommandFault::Text(fault) => format!(in alloc; "{fault}")?,
-        CommandFault::Check(fault) => format!(in alloc; "{fault}")?,
-        CommandFault::Analysis(fault) => format!(in alloc; "{fault}")?,
-        CommandFault::Repair(fault) => format!(in alloc; "{fault}")?,
-        CommandFault::Json(fault) => format!(in alloc; "{fault}")?,
-        CommandFault::Certificate(fault) => format!(in alloc; "{fault}")?,
-        CommandFault::Part(fault) => format!(in alloc; "{fault}")?,
-        CommandFault::Audit(fault) => format!(in alloc; "{fault}")?,
-        CommandFault::Work(fault) => format!(in alloc; "{fault}")?,
-    };
-    format!(in alloc; "fault {text}\n")
+    format!(in alloc; "fault {fault}\n")
 }
 
 impl From<InputFault> for CommandFault {

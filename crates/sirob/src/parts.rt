@@ -138,5 +138,5 @@ fn first_feed(bytes: &[u8]) -> Option<usize>
     ensures before { IfSome result (λ at. (k : ℕ) → k < at → slice_index bytes.now k ≢ 10) }
     ensures none { IfNone result ((k : ℕ) → k < length bytes.now → slice_index bytes.now k ≢ 10) }
 {
-    bytes.iter().position(|byte| *byte == b'\n')
+    memchr(b'\n', bytes)
 }

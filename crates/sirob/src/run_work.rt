@@ -15,6 +15,7 @@ use crate::sentences::kept::Kept;
 use crate::sentences::words::explain;
 use crate::status::Status;
 use si_engine::{MAX_READS, Sink, Source, read_whole};
+use std::mem;
 use std::rt::Clock;
 use std::sync::Wait;
 use std::thread::Threads;
@@ -83,5 +84,7 @@ pub fn run_work<
     }
     let status = write_end(rt.alloc(), sink, ended);
     explain(rt, Mode::Work { workers }, &kept, ended);
+    // The process ends behind it: the system takes the memory of the jobs back as a whole.
+    mem::forget(kept);
     status
 }

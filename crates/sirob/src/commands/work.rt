@@ -21,7 +21,7 @@ use prog_check::ProgramSet;
 use prog_tree::Sequence;
 use robust_cert::RobustSet;
 use si_engine::{ItemList, Sink, push_rows, read_lines};
-use si_workers::{Finished, JobList, JobOutcome, Way, run_jobs};
+use si_workers::{Job, JobList, JobOutcome, Way, Worked, do_jobs};
 use std::alloc::{AllocError, Global};
 use std::mem;
 use std::rt::Clock;
@@ -67,10 +67,11 @@ fn jobs_in(alloc: Global, set: &ProgramSet, part: &[u8]) -> Result<JobList, Comm
     Ok(read_lines::<JobList>(alloc, set, part)?)
 }
 
-// What came of jobs, and the text that says so.
+// Jobs, what came of them, and the text that says so.
 #[derive(Drop)]
 struct WorkAnswer {
     text: String,
+    jobs: Sequence<Job>,
     outcomes: Sequence<JobOutcome>,
 }
 
@@ -90,7 +91,7 @@ fn work_verified<R: AllocGlobal + Eprint + Clock + Watched + Threads + Wait + Sy
     let alloc = rt.alloc();
     let ItemList { rows, items: jobs } = jobs_in(alloc, set.set(), part)?;
     let gate = Progress::new(rt, jobs.len());
-    let Finished { outcomes, book, .. } = run_jobs(
+    let Worked { outcomes, book } = do_jobs(
         rt,
         alloc,
         set,
@@ -100,14 +101,18 @@ fn work_verified<R: AllocGlobal + Eprint + Clock + Watched + Threads + Wait + Sy
         &gate,
     )?;
     let text = work_text(alloc, outcomes.as_slice(), &book)?;
-    // The process ends behind the work: the system takes the memory of both back as a whole.
+    // The process ends behind the work: the system takes the book's memory back as a whole.
     mem::forget(book);
-    mem::forget(jobs);
-    Ok(WorkAnswer { text, outcomes })
+    Ok(WorkAnswer {
+        text,
+        jobs,
+        outcomes,
+    })
 }
 
 /// Does the jobs that the bytes of a part are, where the set is robust, and writes what came of
-/// them; else writes its refusal, and keeps what refuses it. It keeps what came of each job too.
+/// them; else writes its refusal, and keeps what refuses it. It keeps the jobs too, and what came
+/// of each.
 pub fn work_part<R: AllocGlobal + Eprint + Clock + Watched + Threads + Wait + Sync, K: Sink>(
     rt: &R,
     workers: u8,
@@ -122,7 +127,12 @@ pub fn work_part<R: AllocGlobal + Eprint + Clock + Watched + Threads + Wait + Sy
 {
     match assess(rt, set, &mut kept.found)? {
         Verified::Robust(set) => {
-            let WorkAnswer { text, outcomes } = work_verified(rt, workers, &set, part)?;
+            let WorkAnswer {
+                text,
+                jobs,
+                outcomes,
+            } = work_verified(rt, workers, &set, part)?;
+            kept.jobs = jobs;
             kept.outcomes = outcomes;
             write_lines(sink, text.as_bytes(), Ok(Status::Done))
         }

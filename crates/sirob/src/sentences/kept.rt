@@ -4,7 +4,7 @@ use prog_check::ProgramSet;
 use prog_tree::Sequence;
 use run_words::Refusals;
 use si_repair::{Finding, Plan};
-use si_workers::JobOutcome;
+use si_workers::{Job, JobOutcome};
 use std::alloc::Global;
 
 /// A set as its plan repairs it, and that plan.
@@ -27,7 +27,9 @@ pub struct Kept {
     pub cycle: Option<String>,
     /// The lines of a script that do nothing.
     pub refusals: Refusals,
-    /// What came of jobs.
+    /// The jobs that were done.
+    pub jobs: Sequence<Job>,
+    /// What came of them.
     pub outcomes: Sequence<JobOutcome>,
 }
 
@@ -39,6 +41,7 @@ impl Kept {
             repair: None,
             cycle: None,
             refusals: Refusals::new(alloc),
+            jobs: Sequence::new(alloc),
             outcomes: Sequence::new(alloc),
         }
     }

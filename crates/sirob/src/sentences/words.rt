@@ -154,7 +154,7 @@ fn done_sentence(alloc: Global, mode: Mode, kept: &Kept) -> Result<Option<String
         Mode::Certify => found_sentence(alloc, kept),
         Mode::Repair { promote } => repair_sentence(alloc, kept, promote),
         Mode::Run { .. } => refused_sentence(alloc, kept),
-        Mode::Work { .. } => lost_sentence(alloc, &kept.input, kept.outcomes.as_slice()),
+        Mode::Work { .. } => lost_sentence(alloc, kept),
         _ => Ok(None),
     }
 }

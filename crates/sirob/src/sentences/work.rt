@@ -1,34 +1,28 @@
 //! What keeps workers from doing jobs, and which jobs did not commit, as it is said to people.
 
+use crate::sentences::kept::Kept;
 use crate::sentences::kept_input::KeptInput;
 use crate::worker_fault::WorkerFault;
 use run_words::{ToldJobs, lost_job_words};
-use si_engine::read_lines;
-use si_workers::{JobList, JobOutcome, MAX_JOBS, MAX_WORKERS, Way};
+use si_workers::{MAX_JOBS, MAX_WORKERS, Way};
 use std::alloc::{AllocError, Global};
 
-/// Which jobs of an input did not commit, given what came of each.
-pub fn lost_sentence(
-    alloc: Global,
-    input: &[u8],
-    outcomes: &[JobOutcome],
-) -> Result<Option<String>, AllocError> {
+/// Which jobs did not commit.
+pub fn lost_sentence(alloc: Global, kept: &Kept) -> Result<Option<String>, AllocError> {
+    let outcomes = kept.outcomes.as_slice();
     if outcomes
         .iter()
         .all(|outcome| outcome.job_end.is_in(Way::Committed))
     {
         return Ok(None);
     }
-    let input = KeptInput::of(input);
+    let input = KeptInput::of(&kept.input);
     let Some(set) = input.set(alloc) else {
-        return Ok(None);
-    };
-    let Some(list) = read_lines::<JobList>(alloc, &set, input.part.bytes).ok() else {
         return Ok(None);
     };
     let told = ToldJobs {
         part: input.part,
-        jobs: list.items.as_slice(),
+        jobs: kept.jobs.as_slice(),
         outcomes,
     };
     let words = lost_job_words(alloc, &set, told)?;
