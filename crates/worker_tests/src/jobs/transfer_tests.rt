@@ -7,7 +7,7 @@ use crate::sets::{MAYBE, OVERFLOW, REGISTERS, TOTAL, TRANSFERS, robust, rows_of}
 use history_book::{BeginFault, Book};
 use prog_tree::{Cause, Rows};
 use robust_cert::RobustSet;
-use si_workers::{Finished, Moment, NoGate, WorkFault, run_jobs};
+use si_workers::{Finished, Job, Moment, NoGate, WorkFault, do_jobs, run_jobs};
 use std::alloc::Global;
 use std::process::Abort;
 use std::sync::Wait;
@@ -47,6 +47,10 @@ fn a_hundred_transfers_commit_once_each(rt: HostRuntime) -> Result<(), Fail> {
     Ok(())
 }
 
+const OPENING: [(i64, i64); 2] = [(1, i64::MAX), (2, 1)];
+
+const LEFT: [(i64, i64); 3] = [(1, i64::MAX), (2, 1), (9, 4)];
+
 const CALLS: &[Call] = &[
     (TOTAL, &[], 0),
     (MAYBE, &[-1], 9),
@@ -65,10 +69,37 @@ const ENDS: &[(Came, u64)] = &[
 fn jobs_end_in_each_way(rt: HostRuntime) -> Result<(), Fail> {
     let jobs = jobs_of(rt.alloc(), CALLS)?;
     let set = robust(rt.alloc(), &OVERFLOW)?;
-    let rows = [(1, i64::MAX), (2, 1)];
-    let finished = run(&rt, rt.alloc(), &set, &rows, &jobs, 1, &NoGate);
+    let finished = run(&rt, rt.alloc(), &set, &OPENING, &jobs, 1, &NoGate);
     check_outcomes(&rt, finished.outcomes.as_slice(), ENDS);
     drop(finished);
+    drop(set);
+    Ok(())
+}
+
+// Does the same jobs by so many workers, without an order.
+fn check_done<R: Threads + Wait + Abort + Sync>(
+    rt: &R,
+    alloc: Global,
+    set: &RobustSet,
+    jobs: &[Job],
+    workers: usize,
+) {
+    let rows = rows_of(alloc, &OPENING).expect(rt, "memory");
+    let worked = do_jobs(rt, alloc, set, rows, jobs, workers, &NoGate).expect(rt, "no fault");
+    check_outcomes(rt, worked.outcomes.as_slice(), ENDS);
+    let left = rows_of(alloc, &LEFT).expect(rt, "memory");
+    assert!(rt; worked.book.table().expect(rt, "memory").is_same(&left));
+    drop(worked);
+}
+
+// However many workers there are, the jobs end in the same ways: none looks at what one changes.
+#[test]
+fn jobs_are_done_without_an_order(rt: HostRuntime) -> Result<(), Fail> {
+    let jobs = jobs_of(rt.alloc(), CALLS)?;
+    let set = robust(rt.alloc(), &OVERFLOW)?;
+    for workers in [1, 2, 8] {
+        check_done(&rt, rt.alloc(), &set, &jobs, workers);
+    }
     drop(set);
     Ok(())
 }
