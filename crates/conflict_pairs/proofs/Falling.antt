@@ -11,7 +11,7 @@ use Rattle.order_facts.specs.Chain.{IsStep, IsChainFrom, IsChain, RunsBetween, H
 use Rattle.prog_check.specs.declared.path.Column.{Column}
 use Rattle.prog_check.specs.declared.path.Access.{Access}
 use Rattle.prog_paths.specs.Facts.{mine_node, their_node, column_facts, column_or_zero, second_facts, question_facts}
-use Rattle.conflict_pairs.specs.Verdicts.{IsFall, HasFall}
+use Rattle.conflict_pairs.specs.Verdicts.{IsFall}
 use Rattle.prog_paths.specs.Shown.{Falls}
 use Rattle.conflict_pairs.specs.Search.{FallsBetween, FallsAtOnce, FoundWithin}
 
@@ -131,7 +131,3 @@ own_start facts starts ends n d found all from at =
 pub none_fall : (result : Option (List Node)) (fs gs : List Fact) → All (λ f. IsFall f.lo f.hi → ⊥) fs → IfNone result (All (λ f. IsFall f.lo f.hi → ⊥) gs) → IfNone result (All (λ f. IsFall f.lo f.hi → ⊥) (fs ++ gs))
 none_fall None fs gs h k = All-append (λ f. IsFall f.lo f.hi → ⊥) fs gs h k
 none_fall (Some chain) fs gs h k = tt
-
--- where no fact is of two numbers that fall, none is
-pub no_fall : (facts : List Fact) → All (λ f. IsFall f.lo f.hi → ⊥) facts → HasFall facts → ⊥
-no_fall facts none h = subst (λ (f : Fact). IsFall f.lo f.hi → ⊥) h.given.2 (none h.given.0 h.fact h.given.1) h.falls

@@ -20,7 +20,7 @@ use Rattle.conflict_pairs.specs.declared.verdicts.Verdict.{Verdict}
 use Rattle.conflict_pairs.specs.declared.verdicts.Verdict.TheVariants.{Apart, Covered, Exposed}
 use Rattle.conflict_pairs.specs.Verdicts.{IsRight}
 use Rattle.conflict_pairs.specs.Search.{CoversAt, IsJudged}
-use Rattle.conflict_pairs.specs.Alike.{CoverAlike, CoversToo, HaveSameCovers, accesses_in, accesses_at, AreCoverClasses, IsAsked, HasAccess, IsLikeAt, IsLike, IsJudgedAt}
+use Rattle.conflict_pairs.specs.Alike.{CoverAlike, CoversToo, HaveSameCovers, accesses_in, accesses_at, AreCoverClasses, IsAsked, IsLikeAt, IsLike, IsJudgedAt}
 use Rattle.conflict_pairs.specs.Classes.{AreOneClass}
 use Rattle.conflict_pairs.proofs.Meaning.{IsRight-from_lists}
 use Rattle.conflict_pairs.proofs.Moving.{single-first, single-second, IsQuestion-asked, IsRight-asked}
@@ -109,9 +109,6 @@ covers-all xs ys n long le h = (
 
 -- ---- nodes
 
-pub node_accesses : (paths : List Path) (x : ℕ) (p : Path) → x < length paths → p ≡ get_or paths x p → accesses_at paths x ≡ p.accesses
-node_accesses paths x p lt is = ap accesses_in (slice_get-get_or paths x p lt ∙ ap Some (sym is))
-
 pub classes-more : (paths : List Path) (old new : List ℕ) (n c : ℕ) → length old ≡ n → new ≡ old ++ c ∷ [] → HaveSameCovers (accesses_at paths n) (accesses_at paths c) → ((x : ℕ) → x < n → HaveSameCovers (accesses_at paths x) (accesses_at paths (get_or old x 0))) → (x : ℕ) → x < n + 1 → HaveSameCovers (accesses_at paths x) (accesses_at paths (get_or new x 0))
 classes-more paths old new n c long added h before x lt = subst (λ (l : List ℕ). HaveSameCovers (accesses_at paths x) (accesses_at paths (get_or l x 0))) (sym added) (by (cases_lt x n))
   where
@@ -153,12 +150,6 @@ module _ (paths : List Path) (q : Question) (asked : IsAsked paths q) where
 
   pub access-second : IsAccessOf paths q.y q.b asked.second.access
   access-second = (asked.at_second.0, ap (λ (r : Question). slice_get paths r.y) asked.is ∙ asked.at_second.1, ap (λ (r : Question). slice_get asked.at_second.0.accesses r.b) asked.is ∙ asked.at_second.2)
-
-  pub has-first : HasAccess paths q.x q.a
-  has-first = (asked.first.access, access-first)
-
-  pub has-second : HasAccess paths q.y q.b
-  has-second = (asked.second.access, access-second)
 
   pub like-own : IsLike paths q q
   like-own = (

@@ -137,12 +137,6 @@ IsRight-placed paths first second x y at_first at_second is_x is_y v h =
 -- ---- the same of a question that is asked
 
 module _ (paths : List Path) (q : Question) (asked : IsAsked paths q) where
-  pub first_node_within : q.x < length paths
-  first_node_within = subst (λ (r : Question). r.x < length paths) (sym asked.is) (node_within paths asked.first asked.at_first)
-
-  pub second_node_within : q.y < length paths
-  second_node_within = subst (λ (r : Question). r.y < length paths) (sym asked.is) (node_within paths asked.second asked.at_second)
-
   pub single-first : (path : Path) → All ChangesSingleCells paths → path ≡ get_or paths q.x path → ChangesSingleCells path
   single-first path h is = single_of paths asked.first path h asked.at_first (is ∙ ap (λ (r : Question). get_or paths r.x path) asked.is)
 

@@ -18,10 +18,6 @@ use Rattle.conflict_pairs.proofs.Serving.{served-at, served-within}
 use Rattle.conflict_pairs.proofs.Zipped.{AllZip-lengths}
 use Rattle.conflict_pairs.proofs.Likeness.{judged-like, right-judged}
 
--- an element that is there doesn't depend on what stands for a missing one
-pub at_any : (l : List Verdict) (n : ℕ) (d e : Verdict) → n < length l → get_or l n d ≡ get_or l n e
-at_any l n d e lt = get_or_from_slice_get l n (get_or l n e) d (slice_get-get_or l n e lt)
-
 module _ (vs : List Verdict) where
   pub entries-length : (qs : List Question) (ns : List ℕ) → length qs ≡ length ns → length (entries_of vs qs ns) ≡ length qs
   entries-length [] ns e = refl
@@ -32,13 +28,6 @@ module _ (vs : List Verdict) where
   entries-questions [] ns e = refl
   entries-questions (q ∷ qs) [] e = let no : ⊥ = omega (arith, e) in absurd no
   entries-questions (q ∷ qs) (n ∷ ns) e = ap (λ (l : List Question). q ∷ l) (entries-questions qs ns (omega (arith, e)))
-
-  pub entries-none : (qs : List Question) (ns : List ℕ) → length qs ≡ length ns → (qs ≡ [] → entries_of vs qs ns ≡ []) × (entries_of vs qs ns ≡ [] → qs ≡ [])
-  entries-none [] ns e = (λ h. refl, λ h. refl)
-  entries-none (q ∷ qs) ns e = (
-    λ h. let no : ⊥ = omega (arith, ap length h) in absurd no,
-    λ h. let no : ⊥ = omega (arith, sym (entries-length (q ∷ qs) ns e) ∙ ap length h) in absurd no,
-  )
 
   -- the entry of a number
   pub entries-at : (qs : List Question) (ns : List ℕ) (k : ℕ) (q : Question) (n : ℕ) (e : Judged) → slice_get (entries_of vs qs ns) k ≡ Some e → e ≡ entry_by vs (get_or qs k q) (get_or ns k n)

@@ -1,8 +1,8 @@
 -- Classes of accesses, and where their numbers stand.
-use Rattle.std.proofs.Common.{◌≡◌, ℕ, ◌<◌, ◌≤◌, ◌+◌, List, [], ◌∷◌, ◌++◌, length, get_or, drop, refl, sym, subst, ap, ◌∙◌, arith, append_assoc, length-append, zero, suc}
+use Rattle.std.proofs.Common.{◌≡◌, ℕ, ◌<◌, ◌+◌, List, [], ◌∷◌, ◌++◌, length, get_or, drop, refl, sym, subst, ap, ◌∙◌, arith, append_assoc, length-append, zero, suc}
 use Rattle.std.specs.Prelude.{All, Some, slice_get}
 use Rattle.std.specs.List.{AllZip}
-use Rattle.std.proofs.lemmas.List.{drop_more, drop_all, append-nil}
+use Rattle.std.proofs.lemmas.List.{drop_more}
 use Rattle.std.proofs.lemmas.List.Elements.{All-weaker}
 use Rattle.std.proofs.lemmas.Option.{slice_get-get_or, slice_get_within, same_Some}
 use Rattle.prog_tree.proofs.Elements.{get_left}
@@ -108,9 +108,6 @@ starts-more old new whole start next n paths path lt is added step h =
     ∙ append_assoc old (start ∷ []) (starts_from (start + length path.accesses) (drop (n + 1) paths))
     ∙ ap (λ (l : List Path). old ++ starts_from start l) (sym (drop_more paths n path lt ∙ ap (λ (p : Path). p ∷ drop (n + 1) paths) (sym is)))
     ∙ h
-
-pub starts-end : (old whole : List ℕ) (start n : ℕ) (paths : List Path) → length paths ≤ n → old ++ starts_from start (drop n paths) ≡ whole → old ≡ whole
-starts-end old whole start n paths le h = sym (append-nil old) ∙ ap (λ (l : List Path). old ++ starts_from start l) (sym (drop_all n paths le)) ∙ h
 
 -- the accesses of this node and of those that are left
 pub left-more : (n : ℕ) (paths : List Path) (path : Path) → n < length paths → path ≡ get_or paths n path → length (all_from n (drop n paths)) ≡ length path.accesses + length (all_from (n + 1) (drop (n + 1) paths))

@@ -5,6 +5,7 @@ use Rattle.std.specs.List.{AllZip}
 use Rattle.std.proofs.lemmas.List.{get_or-map, length-map, map_push}
 use Rattle.std.proofs.lemmas.List.Elements.{All-cons, All-filter, All-head, All-map, All-nil, All-tail}
 use Rattle.std.proofs.lemmas.Option.{get_or_from_slice_get, slice_get-get_or, slice_get-map, slice_get_within}
+use Rattle.rayon.proofs.ListFacts.{AllZip-through}
 use Rattle.prog_check.specs.declared.path.Path.{Path}
 use Rattle.prog_paths.specs.declared.accesses.places.Placed.{Placed}
 use Rattle.prog_paths.specs.declared.accesses.questions.Question.{Question}
@@ -47,10 +48,7 @@ module _ {Key Told : Type 0} (f : Key → Told) (Serves : Told → Told → Type
   }
 
   pub all_served-given : (values keys : List Key) (ns : List ℕ) → AllZip (IsServed (λ k v. Serves (f k) (f v)) values) keys ns → AllZip (IsServed Serves (map f values)) (map f keys) ns
-  all_served-given values [] [] h = tt
-  all_served-given values [] (n ∷ ns) h = absurd h
-  all_served-given values (k ∷ keys) [] h = absurd h
-  all_served-given values (k ∷ keys) (n ∷ ns) h = (served-given values k n h.0, all_served-given values keys ns h.1)
+  all_served-given values = AllZip-through f (IsServed (λ k v. Serves (f k) (f v)) values) (IsServed Serves (map f values)) (served-given values)
 
 -- ---- pairs of accesses of paths
 

@@ -3,6 +3,7 @@ use Rattle.std.proofs.Common.{◌≡◌, ℕ, ◌+◌, ◌<◌, List, [], ◌∷
 use Rattle.std.specs.Prelude.{All}
 use Rattle.std.specs.List.{AllZip, flat_map}
 use Rattle.std.proofs.lemmas.List.Elements.{All-nil, All-cons, All-append, All-take, All-drop}
+use Rattle.rayon.proofs.ListFacts.{AllZip-append}
 use Rattle.prog_tree.proofs.Elements.{get_left}
 use Rattle.prog_check.specs.declared.path.Path.{Path}
 use Rattle.prog_paths.specs.declared.accesses.places.Placed.{Placed}
@@ -16,7 +17,6 @@ use Rattle.conflict_pairs.specs.Interning.{IsServed}
 use Rattle.conflict_pairs.specs.Pairing.{IsAskedBetween}
 use Rattle.conflict_pairs.specs.Sharing.{IsOnPair, ArePairsJudged, verdicts_in, numbers_in}
 use Rattle.conflict_pairs.proofs.OneClass.{at-right}
-use Rattle.conflict_pairs.proofs.Zipped.{AllZip-append}
 
 -- ---- the verdicts of chunks of pairs
 

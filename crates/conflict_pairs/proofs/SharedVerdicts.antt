@@ -1,10 +1,11 @@
 -- Verdicts that several pairs share, one pair more at a time.
-use Rattle.std.proofs.Common.{◌≡◌, ◌≢◌, ℕ, ◌<◌, ◌≤◌, ◌+◌, ◌⊎◌, inl, inr, List, [], ◌∷◌, ◌++◌, length, get_or, map, take, set, append_assoc, refl, sym, subst, ap, ◌∙◌, arith, suc}
+use Rattle.std.proofs.Common.{◌≡◌, ◌≢◌, ℕ, ◌<◌, ◌≤◌, ◌+◌, ◌⊎◌, inl, inr, List, [], ◌∷◌, ◌++◌, length, get_or, map, take, set, append_assoc, refl, sym, subst, ap, ◌∙◌, arith}
 use Rattle.std.specs.Prelude.{All, Some, slice_get}
 use Rattle.std.specs.List.{AllZip}
 use Rattle.std.proofs.lemmas.Bool.{cases_lt}
 use Rattle.std.proofs.lemmas.List.{map_more, length-map, length-set, get_or-map, get_or-set_same, get_or-set_other, ext_get_or}
 use Rattle.std.proofs.lemmas.List.Elements.{All-push}
+use Rattle.rayon.proofs.ListFacts.{AllZip-through, AllZip-weaken}
 use Rattle.prog_tree.proofs.Elements.{get_left}
 use Rattle.prog_check.specs.declared.path.Path.{Path}
 use Rattle.prog_paths.specs.declared.accesses.places.Placed.{Placed}
@@ -15,7 +16,7 @@ use Rattle.conflict_pairs.specs.Interning.{IsServed}
 use Rattle.conflict_pairs.specs.Pairing.{IsAskedBetween, question_at, questions_at}
 use Rattle.conflict_pairs.specs.Sharing.{IsSame, IsOnPair}
 use Rattle.conflict_pairs.proofs.Serving.{served-kept}
-use Rattle.conflict_pairs.proofs.Zipped.{AllZip-map, AllZip-more, AllZip-then}
+use Rattle.conflict_pairs.proofs.Zipped.{AllZip-more}
 
 -- ---- a list, or the list with one more item behind it
 
@@ -40,14 +41,13 @@ module _ (paths : List Path) (places : List Placed) where
       let here : IsServed (IsOnPair paths places) new pair n =
       record { value = its.value; at = its.at; serves = subst (λ (w : Verdict). IsJudgedAt paths (question_at places pair) w) (sym its.serves) judged } in
       AllZip-more (IsServed (IsOnPair paths places) new) pairs ns ms k d n lt added here
-      (AllZip-then (IsServed (IsOnPair paths places) old) (IsServed (IsOnPair paths places) new) (served-kept (IsOnPair paths places) old new (kept-grown old new v grown)) (take k pairs) ns h)
+      (AllZip-weaken (IsServed (IsOnPair paths places) old) (IsServed (IsOnPair paths places) new) (served-kept (IsOnPair paths places) old new (kept-grown old new v grown)) (take k pairs) ns h)
 
   -- the verdicts on pairs are those on their questions
   pub on-questions : (pairs : List PlacePair) (vs : List Verdict) (ns : List ℕ) → AllZip (IsServed (IsOnPair paths places) vs) pairs ns → AllZip (IsServed (IsJudgedAt paths) vs) (questions_at places pairs) ns
   on-questions pairs vs ns h =
-      AllZip-map (question_at places) (IsServed (IsJudgedAt paths) vs) pairs ns
-      (AllZip-then (IsServed (IsOnPair paths places) vs) (λ (pair : PlacePair). IsServed (IsJudgedAt paths) vs (question_at places pair))
-      (λ pair n its. record { value = its.value; at = its.at; serves = its.serves }) pairs ns h)
+      AllZip-through (question_at places) (IsServed (IsOnPair paths places) vs) (IsServed (IsJudgedAt paths) vs)
+      (λ pair n its. record { value = its.value; at = its.at; serves = its.serves }) pairs ns h
 
 -- ---- a list that each item of another one adds to
 

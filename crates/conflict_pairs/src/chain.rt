@@ -1,5 +1,5 @@
 //! Chains that answers hold.
-ghost use Rattle.std.specs.Prelude.{◌≡◌, [], ◌∷◌, IsTrue};
+ghost use Rattle.std.specs.Prelude.{◌≡◌, ◌↔◌, [], ◌∷◌, IsTrue};
 ghost use Rattle.order_facts.specs.Chain.{IsTight};
 
 use order_facts::{Node, Nodes};
@@ -50,9 +50,9 @@ impl Chain {
         self.nodes.as_slice()
     }
 
-    /// Whether these are its nodes. A `false` promises nothing.
+    /// Whether these are its nodes.
     pub fn is_same(&self, nodes: &[Node]) -> bool
-        ensures { IsTrue result → self.now ≡ nodes.now }
+        ensures { IsTrue result ↔ (self.now ≡ nodes.now) }
     {
         self.as_slice() == nodes
     }

@@ -116,29 +116,6 @@ fn is_remembered<I: Interner>(interner: &I, key: &I::Key, values: &[I::Value], n
     (number as usize) < values.len() && interner.is_served(key, &values[number as usize])
 }
 
-/// The number of a value that serves a key: the remembered one, or that of a new value.
-fn remembered_or_new<I: Interner>(
-    alloc: Global,
-    interner: &I,
-    key: &I::Key,
-    remembered: u32,
-    values: &mut Vec<I::Value>,
-) -> Result<u32, AllocError>
-    requires takes { I.takes interner.now key.now }
-    requires sound { All (I.is_sound interner.now) values.old.items }
-    ensures sound { OnOk result (All (I.is_sound interner.now) values.new.items) }
-    ensures served { IfOk result
-        (λ number. IsServed (I.serves interner.now) values.new.items key.now number) }
-    ensures keeps { OnOk result ((k : ℕ) (v : I.Value)
-        → slice_get values.old.items k ≡ Some v → slice_get values.new.items k ≡ Some v) }
-{
-    if is_remembered(interner, key, values, remembered) {
-        return Ok(remembered);
-    }
-    let number = push_numbered(values, interner.make(alloc, key)?)?;
-    Ok(number)
-}
-
 /// The number of a value that serves a key. Keys in a row are often alike, so the number of the
 /// last one is tried first, and the slot is asked where it fails.
 fn number_of<I: Interner>(
@@ -161,7 +138,11 @@ fn number_of<I: Interner>(
         return Ok(last);
     }
     let hash = interner.hash(key);
-    let number = remembered_or_new(alloc, interner, key, slots.get(hash), values)?;
+    let remembered = slots.get(hash);
+    if is_remembered(interner, key, values, remembered) {
+        return Ok(remembered);
+    }
+    let number = push_numbered(values, interner.make(alloc, key)?)?;
     slots.set(hash, number);
     Ok(number)
 }

@@ -1,7 +1,8 @@
 use Rattle.std.proofs.Common.{List, subst, take_all, arith}
 use Rattle.std.specs.List.{AllZip}
+use Rattle.rayon.proofs.ListFacts.{AllZip-weaken}
 use Rattle.conflict_pairs.specs.Interning.{IsServed}
-use Rattle.conflict_pairs.proofs.Zipped.{AllZip-more, AllZip-then}
+use Rattle.conflict_pairs.proofs.Zipped.{AllZip-more}
 use Rattle.conflict_pairs.proofs.Serving.{served-kept}
 use Rattle.conflict_pairs.proofs.interning.intern_all.Goals as goal
 
@@ -18,7 +19,7 @@ loop-key-preserved g c =
       served =
           AllZip-more (IsServed serves new) c.args.keys.now c.loop-key.numbers.items c.push_reserved.new.self.items c.loop-key.key-index c.key-item.result _ (omega arith) c.push_reserved.ensures.items
           (subst (λ (k : g.row.I-Key.Denot). IsServed serves new k c.in_ok-number.number) c.key-item.is c.in_ok-number.ensures.served)
-          (AllZip-then (IsServed serves old) (IsServed serves new) (served-kept serves old new c.in_ok-number.ensures.keeps) _ _ c.loop-key.invariant.served);
+          (AllZip-weaken (IsServed serves old) (IsServed serves new) (served-kept serves old new c.in_ok-number.ensures.keeps) _ _ c.loop-key.invariant.served);
       one_each = omega (arith, c.push_reserved.ensures.len, c.loop-key.invariant.one_each);
       room = omega (arith, c.push_reserved.ensures.capacity, c.loop-key.invariant.room);
     }

@@ -1,9 +1,9 @@
 use Rattle.std.proofs.Common.{List, max, sym, subst}
 use Rattle.std.specs.Prelude.{All, IfOk}
 use Rattle.std.proofs.Crossing.{crosses, frees}
+use Rattle.std.proofs.lemmas.Result.{IfOk-weaker}
 use denote.Param.Send.{sendable}
 use Rattle.rayon.specs.Lists.{chunks_of}
-use Rattle.rayon.proofs.ListFacts.{IfOk-then}
 use Rattle.rayon.proofs.ToStd.{slice-AllZip}
 use Rattle.conflict_pairs.specs.declared.pairing.PlacePair.{PlacePair}
 use Rattle.conflict_pairs.specs.declared.sharing.PairVerdicts.{PairVerdicts}
@@ -45,7 +45,6 @@ returns g c =
     let size = c.part_len.result in
     let h = c.in_ok-collect.ensures in
     let chain = rw (c.map.ensures.base, c.map.ensures.f, c.par_chunks.ensures.slice, c.par_chunks.ensures.size) at h.1 in
-    IfOk-then c.in_ok-collect.field-0 _ _
+    IfOk-weaker c.in_ok-collect.field-0 _ _ (λ v z. of_whole paths places pairs size v.items z)
     (gathered _ (λ (chunk : List PlacePair) (part : PairVerdicts). ArePairsJudged paths places chunk part.verdicts.items part.numbers.items) (λ v. v.items) _ (chunks_of (max size 1) pairs) h.0
     (slice-AllZip chain.0 (chunks_of (max size 1) pairs) chain.1 (λ chunk x. IfOk x (λ (part : PairVerdicts). ArePairsJudged paths places chunk part.verdicts.items part.numbers.items)) h.0 chain.2) h.2)
-    (λ v z. of_whole paths places pairs size v.items z)
