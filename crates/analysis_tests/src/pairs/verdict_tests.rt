@@ -275,6 +275,27 @@ fn equal_verdicts_are_kept_once(rt: HostRuntime) -> Result<(), Fail> {
     Ok(())
 }
 
+/// A program with three questions: of its put and itself, which is exposed, and of its get and its
+/// count and the put. These two are not alike, as the count ends at 2; both are covered by the put
+/// and itself, by the chains 1 and 1.
+const COVERED_ALIKE: &str = "\
+table t 1;
+program One() { put t[1] = 0; let a = get t[1] else 0; let n = count t[1..2]; }
+";
+
+#[test]
+fn equal_covered_verdicts_are_kept_once(rt: HostRuntime) -> Result<(), Fail> {
+    let paths = paths_of(rt.alloc(), COVERED_ALIKE)?;
+    let table = table_of(&rt, rt.alloc(), &paths);
+    let by_threads = table_of_threads(&rt, rt.alloc(), &paths);
+    drop(paths);
+    let counted = counts(&rt, table);
+    let counted_by_threads = counts(&rt, by_threads);
+    assert!(rt; counted == (3, 2));
+    assert!(rt; counted_by_threads == (3, 2));
+    Ok(())
+}
+
 #[test]
 fn more_than_a_million_questions_are_too_many(rt: HostRuntime) -> Result<(), Fail> {
     let paths = wide_paths(rt.alloc(), 2)?;
