@@ -212,7 +212,7 @@ pub fn advice(alloc: Global, shown: Shown<'_>, danger: &Danger) -> Result<String
     advice_text(alloc, &circle, &first, &second)
 }
 
-/// The same where both edges are one.
+/// Why nothing hinders an edge that is both, and what to do about it.
 pub fn twin_advice(alloc: Global, shown: Shown<'_>, danger: &Danger) -> Result<String, AllocError>
     ensures { IfOk result (λ words.
         IsTwinAdvice (seen shown.entry) danger.now (string_bytes words)) }
