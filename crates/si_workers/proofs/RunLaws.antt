@@ -14,7 +14,7 @@ use Rattle.si_workers.specs.Assigned.{Assigned, assigned}
 use Rattle.si_workers.specs.KeptAndTold.{Tidings}
 use Rattle.si_workers.specs.Outcomes.{Correspond, IsOver, OutcomesCorrespond, tidings_of}
 use Rattle.si_workers.specs.Settled.{AreOutcomesIn, AreToldRight, AreToldWrong, IsConcluded, IsHandedOut, IsOrderOf, IsPutInOrder, IsSettled, lack_memory}
-use Rattle.si_workers.specs.Work.{AreTaken, IsNamed, IsTrueOver, IsWorkFault, jobs_by}
+use Rattle.si_workers.specs.Work.{AreDone, AreTaken, IsNamed, IsTrueOver, IsWorkFault, jobs_by}
 use Rattle.si_workers.specs.declared.fault.WorkFault.{WorkFault}
 use Rattle.si_workers.specs.declared.fault.WorkFault.TheVariants.{Workers, TooManyJobs, NoThread, Broken, Memory}
 use Rattle.si_workers.specs.declared.job.Job.{Job}
@@ -75,13 +75,14 @@ module _ (given : Assigned) (jobs : List Job) (done : List Done) (v : BookView) 
   conclude-settled outcomes (Err (Broken job outcome book)) lack right concluded = absurd concluded
   conclude-settled outcomes (Err (Memory book)) lack right concluded = absurd concluded
 
-  -- outcomes and book correspond where work is settled well
-  correspond-settled : (r : Result Worked WorkFault) → 0 < given.workers → IsSettled given jobs done v r → IfOk r (λ worked. OutcomesCorrespond given jobs worked.outcomes worked.book)
-  correspond-settled (Ok worked) some settled =
+  -- the jobs were done where work is settled well
+  done-settled : (r : Result Worked WorkFault) → AreTaken given.workers jobs → IsTrueBook v → IsSettled given jobs done v r → IfOk r (λ worked. AreDone given jobs worked.outcomes worked.book)
+  done-settled (Ok worked) taken holds settled =
+      let some : 0 < given.workers = taken.number.0 in
       let all = jobs-some (length done) jobs (omega (arith, some, settled.1)) in
-      subst (λ (book : BookView). OutcomesCorrespond given jobs worked.outcomes book) (sym settled.2)
-      (subst (λ (js : List Job). OutcomesCorrespond given js worked.outcomes v) all (outcomes-told worked.outcomes settled.3))
-  correspond-settled (Err fault) some settled = tt
+      let correspond = subst (λ (js : List Job). OutcomesCorrespond given js worked.outcomes v) all (outcomes-told worked.outcomes settled.3) in
+      subst (AreDone given jobs worked.outcomes) (sym settled.2) (record { taken = taken; true_book = holds; correspond = correspond })
+  done-settled (Err fault) taken holds settled = tt
 
   -- what is handed out where memory ran out
   handed-out : (book : Option BookView) → AreTaken given.workers jobs → IsTrueBook v → IsHandedOut given v book → IsWorkFault given jobs (Memory book)
@@ -119,10 +120,10 @@ same-given workers set of kept opening same_set same_rows =
 pub promised :
     (kept given : Assigned) (jobs : List Job) (done : List Done) (v : BookView) (r : Result Worked WorkFault) →
     kept ≡ given → AreTaken given.workers jobs → IsTrueBook v → IsSettled kept jobs done v r →
-    IfOk r (λ worked. OutcomesCorrespond given jobs worked.outcomes worked.book) × IfErr r (IsWorkFault given jobs)
+    IfOk r (λ worked. AreDone given jobs worked.outcomes worked.book) × IfErr r (IsWorkFault given jobs)
 promised kept given jobs done v r same taken holds as_kept =
     let settled = subst (λ (a : Assigned). IsSettled a jobs done v r) same as_kept in (
-      correspond-settled given jobs done v r taken.number.0 settled,
+      done-settled given jobs done v r taken holds settled,
       fault-settled given jobs done v r taken holds settled,
     )
 
@@ -133,44 +134,39 @@ pub promised-lacking :
 promised-lacking kept given jobs v book same taken holds as_kept =
     handed-out given jobs [] v book taken holds (subst (λ (a : Assigned). IsHandedOut a v book) same as_kept)
 
--- work that corresponds to a book over a set without a dangerous structure
+-- work that was done leaves a book over a set without a dangerous structure where it was given one
 pub safe-work :
     (given : Assigned) (jobs : List Job) (r : Result Worked WorkFault) → (IsDangerous (paths_of given.set) → ⊥) →
-    IfOk r (λ worked. OutcomesCorrespond given jobs worked.outcomes worked.book) →
+    IfOk r (λ worked. AreDone given jobs worked.outcomes worked.book) →
     IfOk r (λ worked. IsDangerous (paths_of (draft_tree worked.book.set)) → ⊥)
-safe-work given jobs (Ok worked) safe correspond = safe-over given worked.book correspond.1.over safe
-safe-work given jobs (Err fault) safe correspond = tt
+safe-work given jobs (Ok worked) safe done = safe-over given worked.book done.correspond.1.over safe
+safe-work given jobs (Err fault) safe done = tt
 
 -- ---- work in the order of its commits
 
+-- the order is that of the book that is handed out
+pub ordered-order : (worked : Worked) (r : Result Finished WorkFault) → IsPutInOrder worked r → IfOk r (λ finished. IsOrderOf finished.book finished.order)
+ordered-order worked (Ok finished) ordered = subst (λ (book : BookView). IsOrderOf book finished.order) (sym ordered.1) ordered.2
+ordered-order worked (Err fault) ordered = tt
+
 module _ (given : Assigned) (jobs : List Job) (worked : Worked) where
-  -- a true book stays one
-  pub ordered-true : (r : Result Finished WorkFault) → IsPutInOrder worked r → IsTrueBook worked.book → IfOk r (λ finished. IsTrueBook finished.book)
-  ordered-true (Ok finished) ordered holds = subst IsTrueBook (sym ordered.1) holds
-  ordered-true (Err fault) ordered holds = tt
-
-  -- outcomes and book correspond as they did
-  pub ordered-correspond :
-      (r : Result Finished WorkFault) → IsPutInOrder worked r → OutcomesCorrespond given jobs worked.outcomes worked.book →
-      IfOk r (λ finished. OutcomesCorrespond given jobs finished.outcomes finished.book)
-  ordered-correspond (Ok finished) ordered correspond =
-      subst (λ (book : BookView). OutcomesCorrespond given jobs finished.outcomes book) (sym ordered.1)
-      (subst (λ (outcomes : List JobOutcome). OutcomesCorrespond given jobs outcomes worked.book) (sym ordered.0) correspond)
-  ordered-correspond (Err fault) ordered correspond = tt
-
-  -- the order is that of the book that is handed out
-  pub ordered-order : (r : Result Finished WorkFault) → IsPutInOrder worked r → IfOk r (λ finished. IsOrderOf finished.book finished.order)
-  ordered-order (Ok finished) ordered = subst (λ (book : BookView). IsOrderOf book finished.order) (sym ordered.1) ordered.2
-  ordered-order (Err fault) ordered = tt
+  -- jobs that were done are so with what is handed out
+  pub ordered-done :
+      (r : Result Finished WorkFault) → IsPutInOrder worked r → AreDone given jobs worked.outcomes worked.book →
+      IfOk r (λ finished. AreDone given jobs finished.outcomes finished.book)
+  ordered-done (Ok finished) ordered done =
+      subst (λ (book : BookView). AreDone given jobs finished.outcomes book) (sym ordered.1)
+      (subst (λ (outcomes : List JobOutcome). AreDone given jobs outcomes worked.book) (sym ordered.0) done)
+  ordered-done (Err fault) ordered done = tt
 
   -- where memory ran out for the order, the book that is handed out is a true one
   pub ordered-fault :
-      (r : Result Finished WorkFault) → IsPutInOrder worked r → AreTaken given.workers jobs → IsTrueBook worked.book →
-      OutcomesCorrespond given jobs worked.outcomes worked.book → IfErr r (IsWorkFault given jobs)
-  ordered-fault (Ok finished) ordered taken holds correspond = tt
-  ordered-fault (Err Workers) ordered taken holds correspond = absurd ordered
-  ordered-fault (Err TooManyJobs) ordered taken holds correspond = absurd ordered
-  ordered-fault (Err (NoThread started outcomes book)) ordered taken holds correspond = absurd ordered
-  ordered-fault (Err (Broken job outcome book)) ordered taken holds correspond = absurd ordered
-  ordered-fault (Err (Memory book)) ordered taken holds correspond =
-      (taken, subst (λ (b : Option BookView). IfSome b (IsTrueOver given)) (sym ordered) (holds, correspond.1.over))
+      (r : Result Finished WorkFault) → IsPutInOrder worked r → AreDone given jobs worked.outcomes worked.book →
+      IfErr r (IsWorkFault given jobs)
+  ordered-fault (Ok finished) ordered done = tt
+  ordered-fault (Err Workers) ordered done = absurd ordered
+  ordered-fault (Err TooManyJobs) ordered done = absurd ordered
+  ordered-fault (Err (NoThread started outcomes book)) ordered done = absurd ordered
+  ordered-fault (Err (Broken job outcome book)) ordered done = absurd ordered
+  ordered-fault (Err (Memory book)) ordered done =
+      (done.taken, subst (λ (b : Option BookView). IfSome b (IsTrueOver given)) (sym ordered) (done.true_book, done.correspond.1.over))

@@ -95,6 +95,12 @@ pub record AreTaken (workers : ℕ) (jobs : List Job) : Type 0 where
   pub number : IsRightNumber workers
   pub few : length jobs ≤ most_jobs
 
+-- the jobs were done, and these outcomes of them correspond to the book, which is a true one
+pub record AreDone (given : Assigned) (jobs : List Job) (outcomes : List JobOutcome) (book : BookView) : Type 0 where
+  pub taken : AreTaken given.workers jobs
+  pub true_book : IsTrueBook book
+  pub correspond : OutcomesCorrespond given jobs outcomes book
+
 -- the jobs that were done, where so many threads started
 abbrev pub jobs_by : (started : ℕ) → List Job → List Job
 jobs_by zero jobs = []

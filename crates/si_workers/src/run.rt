@@ -4,13 +4,11 @@ ghost use Rattle.std.specs.Prelude.{◌≡◌, ◌≢◌, All, IfOk, IfErr, None
 ghost use Rattle.prog_tree.specs.Tree.{draft_tree};
 ghost use Rattle.prog_check.specs.Paths.{paths_of};
 ghost use Rattle.prog_paths.specs.StaticGraph.{IsDangerous};
-ghost use Rattle.history_book.specs.TrueBook.{IsTrueBook};
 ghost use Rattle.si_workers.specs.Assigned.{assigned, assigned_by};
-ghost use Rattle.si_workers.specs.Outcomes.{OutcomesCorrespond};
 ghost use Rattle.si_workers.specs.Settled.{AreOutcomesIn, IsCompared, IsConcluded, IsHandedOut};
 ghost use Rattle.si_workers.specs.Settled.{IsOrderOf, IsPutInOrder, IsSettled, IsWorkCompared};
 ghost use Rattle.si_workers.specs.Settled.{lack_memory};
-ghost use Rattle.si_workers.specs.Work.{AreTaken, IsWorkFault, jobs_by, outcome_at};
+ghost use Rattle.si_workers.specs.Work.{AreDone, IsWorkFault, jobs_by, outcome_at};
 
 use crate::assignment::Assignment;
 use crate::comparing::{broken, is_over};
@@ -172,7 +170,7 @@ fn compare_work(
     compare(alloc, given, tidings, book)
 }
 
-// The same, settled.
+// What workers did, settled by the book that they leave.
 fn settle<'a>(
     alloc: Global,
     given: Assignment<'_>,
@@ -203,10 +201,8 @@ pub fn do_jobs<'a, R: Threads + Wait + Sync, G: Gate + Sync>(
     workers: usize,
     gate: &G,
 ) -> Result<Worked<'a>, WorkFault<'a>>
-    ensures taken { IfOk result (λ worked. AreTaken workers jobs.now) }
-    ensures true_book { IfOk result (λ worked. IsTrueBook worked.book) }
-    ensures correspond { IfOk result (λ worked.
-        OutcomesCorrespond (assigned workers (draft_tree set.now) opening) jobs.now
+    ensures done { IfOk result (λ worked.
+        AreDone (assigned workers (draft_tree set.now) opening) jobs.now
         worked.outcomes worked.book) }
     ensures safe { IfOk result (λ worked.
         ¬ IsDangerous (paths_of (draft_tree worked.book.set))) }
@@ -267,10 +263,8 @@ pub fn run_jobs<'a, R: Threads + Wait + Sync, G: Gate + Sync>(
     workers: usize,
     gate: &G,
 ) -> Result<Finished<'a>, WorkFault<'a>>
-    ensures taken { IfOk result (λ finished. AreTaken workers jobs.now) }
-    ensures true_book { IfOk result (λ finished. IsTrueBook finished.book) }
-    ensures correspond { IfOk result (λ finished.
-        OutcomesCorrespond (assigned workers (draft_tree set.now) opening) jobs.now
+    ensures done { IfOk result (λ finished.
+        AreDone (assigned workers (draft_tree set.now) opening) jobs.now
         finished.outcomes finished.book) }
     ensures order { IfOk result (λ finished. IsOrderOf finished.book finished.order) }
     ensures fault { IfErr result

@@ -12,7 +12,6 @@ use Rattle.robust_cert.specs.Json.{certificate_text}
 use Rattle.robust_cert.specs.Reading.{IsTextOf}
 use Rattle.si_repair.specs.Findings.{IsCertificateOf}
 use Rattle.history_book.specs.declared.instances.row.HistoryRow.{HistoryRow}
-use Rattle.history_book.specs.TrueBook.{IsTrueBook}
 use Rattle.history_book.specs.View.{BookView, history_of}
 use Rattle.si_engine.specs.declared.output.finding.Serializability.{Serializability}
 use Rattle.si_engine.specs.declared.output.finding.Serializability.TheVariants.{Order}
@@ -27,8 +26,7 @@ use Rattle.si_workers.specs.declared.job.Job.{Job}
 use Rattle.si_workers.specs.declared.job.JobOutcome.{JobOutcome}
 use Rattle.si_workers.specs.Assigned.{assigned}
 use Rattle.si_workers.specs.JobLines.{jobs_of}
-use Rattle.si_workers.specs.Outcomes.{OutcomesCorrespond}
-use Rattle.si_workers.specs.Work.{AreTaken}
+use Rattle.si_workers.specs.Work.{AreDone}
 use Rattle.sirob.specs.declared.command_line.Mode.{Mode}
 use Rattle.sirob.specs.declared.command_line.Mode.TheVariants.{Check, Certify, Verify, Repair, Run, Audit, Work}
 use Rattle.sirob.specs.declared.command_fault.CommandFault.{CommandFault}
@@ -93,16 +91,13 @@ GivesAudit set part written status =
     (finding : Serializability) × (records : ItemList HistoryRow) × IsAudited set part records
     × AddsEnd set records.rows (history_of records.items) finding [] written × (status ≡ status_of finding)
 
--- so many workers may do the jobs that the part is, and these are the counts and the rows that outcomes of all of them
--- have, which correspond to a book
+-- so many workers did the jobs that the part is, and these are the counts of their outcomes and the rows of the book
 pub record GivesWork (workers : ℕ) (set : DraftTree) (part written : List ℕ) : Type 0 where
   pub list : ItemList Job
   pub read : jobs_of set part ≡ Ok list
-  pub taken : AreTaken workers list.items
   pub outcomes : List JobOutcome
   pub book : BookView
-  pub true_book : IsTrueBook book
-  pub correspond : OutcomesCorrespond (assigned workers set list.rows) list.items outcomes book
+  pub done : AreDone (assigned workers set list.rows) list.items outcomes book
   pub text : written ≡ work_text outcomes book
 
 -- all that a second part without a fault means was written, and this is the status behind it; a set that may not run

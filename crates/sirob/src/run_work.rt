@@ -84,7 +84,7 @@ pub fn run_work<
     }
     let status = write_end(rt.alloc(), sink, ended);
     explain(rt, Mode::Work { workers }, &kept, ended);
-    // The process ends behind it: the system takes the memory of the jobs back as a whole.
+    // The process ends behind the words: the system takes what was kept back as a whole.
     mem::forget(kept);
     status
 }

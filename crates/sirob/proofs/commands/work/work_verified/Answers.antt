@@ -6,8 +6,7 @@ use Rattle.si_workers.specs.declared.job.Job.{Job}
 use Rattle.si_workers.specs.declared.job.JobOutcome.{JobOutcome}
 use Rattle.si_workers.specs.Assigned.{assigned}
 use Rattle.si_workers.specs.JobLines.{jobs_of}
-use Rattle.si_workers.specs.Outcomes.{OutcomesCorrespond}
-use Rattle.si_workers.specs.Work.{AreTaken, IsWorkFault}
+use Rattle.si_workers.specs.Work.{AreDone, IsWorkFault}
 use Rattle.sirob.specs.Stops.{IsFaultOfJobs}
 use Rattle.sirob.specs.Work.{work_text}
 use Rattle.sirob.proofs.StopLaws.{fault_of_lines}
@@ -56,15 +55,12 @@ returns-clause-ok g c =
     let part = c.args.part.now in
     let list = c.in_ok-rows.field-0 in
     let finished = c.in_ok-outcomes.field-0 in
-    let taken = subst (λ (n : ℕ). AreTaken n c.as_slice.result.now) c.from.ensures c.in_ok-outcomes.ensures.taken in
-    let correspond = subst (λ (n : ℕ). OutcomesCorrespond (assigned n set list.rows) c.as_slice.result.now finished.outcomes finished.book) c.from.ensures c.in_ok-outcomes.ensures.correspond in
+    let done = subst (λ (n : ℕ). AreDone (assigned n set list.rows) c.as_slice.result.now finished.outcomes finished.book) c.from.ensures c.in_ok-outcomes.ensures.done in
     record {
       list = list;
       read = subst (λ (s : Draft). jobs_of (draft_tree s) part ≡ Ok list) c.set.ensures.same c.in_ok-rows.ensures.ok;
-      taken = subst (λ (jobs : List Job). AreTaken c.args.workers jobs) c.as_slice.ensures taken;
       outcomes = finished.outcomes;
       book = finished.book;
-      true_book = c.in_ok-outcomes.ensures.true_book;
-      correspond = subst (λ (jobs : List Job). OutcomesCorrespond (assigned c.args.workers set list.rows) jobs finished.outcomes finished.book) c.as_slice.ensures correspond;
+      done = subst (λ (jobs : List Job). AreDone (assigned c.args.workers set list.rows) jobs finished.outcomes finished.book) c.as_slice.ensures done;
       text = c.in_ok-text.ensures ∙ ap (λ (outcomes : List JobOutcome). work_text outcomes finished.book) c.as_slice-2.ensures;
     }
