@@ -10,7 +10,7 @@ use prog_tree::{Cell, Region, RisingCells, Rows, Sequence};
 use std::alloc::AllocError;
 
 // For how many rows a scan makes room at most before it has found one.
-const MOST_FIRST_ROWS: usize = 8192;
+const MOST_FIRST_ROWS: usize = 1024;
 
 // How many numbers there are from one to another, as far as a usize can tell.
 fn count_between(low: i64, high: i64) -> usize {
