@@ -94,10 +94,10 @@ class Tally:
         return 1 if self.failed else 0
 
 
-def words_of(doc, **flags):
-    """The words of a script with this docstring: the program, and flags, each with what it is where it isn't named."""
+def words_of(doc, binary=None, **flags):
+    """The words of a script with this docstring: the program and flags, each with what it is where it isn't named."""
     parser = argparse.ArgumentParser(usage=doc.split("\n\n")[1].removeprefix("usage: "))
-    parser.add_argument("binary", type=os.path.abspath)
+    parser.add_argument("binary", type=os.path.abspath, nargs="?" if binary else None, default=binary)
     for name, value in flags.items():
         how = {"action": "store_true"} if value is False else {"type": int, "default": value}
         parser.add_argument(f"--{name}", **how)

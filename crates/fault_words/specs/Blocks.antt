@@ -1,5 +1,5 @@
 -- Which block of a text is left open, and how people are told.
-use Rattle.std.specs.Prelude.{ℕ, zero, suc, ◌==◌, ◌&&◌, Bool, false, List, [], ◌∷◌, ◌++◌, Option, Some, None, is_some, unwrap_or, bytes_eq, codes, count_by, drop, length, take, if◌then◌else◌}
+use Rattle.std.specs.Prelude.{ℕ, zero, suc, ◌==◌, ◌&&◌, Bool, false, List, [], ◌∷◌, ◌++◌, Option, Some, None, is_some, unwrap_or, bytes_eq, codes, count_by, drop, find, length, take, if◌then◌else◌}
 use Rattle.std.specs.Fmt.{decimal}
 use Rattle.text_places.specs.Reading.{short_word, stands_free, without_comments}
 use Rattle.text_places.specs.Places.{line_number}
@@ -24,13 +24,13 @@ is_left_open (byte ∷ bytes) = opens byte && count_by opens bytes == count_by c
 abbrev pub open_block : (text : List ℕ) → Option ℕ
 open_block text = last_before (λ place. is_left_open (drop place text)) (length text)
 
--- which word a word is of those of which one stands before each block
+-- the words of which one stands before each block
+abbrev pub heads : List (List ℕ)
+heads = codes "program" ∷ codes "if" ∷ codes "else" ∷ codes "each" ∷ []
+
+-- which of them a word is
 abbrev pub head_of : (word : List ℕ) → Option (List ℕ)
-head_of word =
-    if bytes_eq word (codes "program") then Some (codes "program")
-    else (if bytes_eq word (codes "if") then Some (codes "if")
-    else (if bytes_eq word (codes "else") then Some (codes "else")
-    else (if bytes_eq word (codes "each") then Some (codes "each") else None)))
+head_of word = find (bytes_eq word) heads
 
 -- such a word begins here
 abbrev pub begins_head : (text : List ℕ) → (place : ℕ) → Bool

@@ -279,27 +279,18 @@ pub fn text_words(alloc: Global, text: &[u8], fault: TextFault) -> Result<String
             "a byte that is not ASCII; a text has only ASCII, in its comments too",
         ),
         TextFault::UnknownByte { place } => {
-            let sentence = unknown_byte(alloc, text, place)?;
-            point_at(alloc, text, place, &sentence)
+            point_at(alloc, text, place, &unknown_byte(alloc, text, place)?)
         }
         TextFault::UnexpectedToken { place } => unexpected(alloc, text, place),
         TextFault::UnexpectedEnd { place } => too_early(alloc, text, place),
         TextFault::NumberOutOfRange { place } => {
-            let sentence = out_of_range(alloc)?;
-            point_at(alloc, text, place, &sentence)
+            point_at(alloc, text, place, &out_of_range(alloc)?)
         }
-        TextFault::NameTooLong { place } => {
-            let sentence = name_too_long(alloc)?;
-            point_at(alloc, text, place, &sentence)
-        }
+        TextFault::NameTooLong { place } => point_at(alloc, text, place, &name_too_long(alloc)?),
         TextFault::TooDeep { place } => {
-            let sentence = too_deep(alloc, text, place)?;
-            point_at(alloc, text, place, &sentence)
+            point_at(alloc, text, place, &too_deep(alloc, text, place)?)
         }
-        TextFault::TooLong { place } => {
-            let sentence = too_long(alloc)?;
-            point_at(alloc, text, place, &sentence)
-        }
+        TextFault::TooLong { place } => point_at(alloc, text, place, &too_long(alloc)?),
         TextFault::Memory => format!(in alloc; "memory ran out"),
     }
 }

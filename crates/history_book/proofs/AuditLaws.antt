@@ -17,17 +17,6 @@ use Rattle.history_book.specs.declared.audit.AuditFault.TheVariants as audit
 use Rattle.history_book.specs.declared.instances.row.Ending.TheVariants.{Committed}
 use Rattle.history_book.specs.declared.instances.row.HistoryRow.{HistoryRow}
 
--- ---- what is left of a list
-
-module _ {X : Type 0} where
-  -- a loop that takes one more of a list, and one that took all
-  pub more_yielded : (yielded rest all left : List X) (x : X) → yielded ++ left ≡ all → left ≡ x ∷ rest → (yielded ++ x ∷ []) ++ rest ≡ all
-  more_yielded yielded rest all left x is first = append_assoc yielded (x ∷ []) rest ∙ ap (λ (l : List X). yielded ++ l) (sym first) ∙ is
-
-  pub all_yielded : (yielded left all : List X) → yielded ++ left ≡ all → length left ≡ 0 → yielded ≡ all
-  all_yielded yielded [] all is none = sym (append-nil yielded) ∙ is
-  all_yielded yielded (x ∷ left) all is none = absurd (omega (arith, none))
-
 -- ---- one row more
 
 -- an audited book with one row more

@@ -71,7 +71,7 @@ fn check_values(visible: &Names, place: Place, stmt: &Stmt) -> Result<(), CheckF
     Ok(())
 }
 
-/// Makes the name that a statement gives to a value visible.
+// Makes the name that a statement gives to a value visible.
 fn declare(visible: &mut Names, place: Place, stmt: &Stmt) -> Result<(), CheckFault>
     ensures found { Finds (λ _. Unit {0}) result
         (first_broken (new_name_rules place visible.old (new_name_by (stmt_tree stmt.now)))) }
@@ -86,7 +86,7 @@ fn declare(visible: &mut Names, place: Place, stmt: &Stmt) -> Result<(), CheckFa
     Ok(())
 }
 
-/// Makes the names of an `each` visible.
+// Makes the names of an `each` visible.
 fn declare_inner(visible: &mut Names, place: Place, listing: &Listing) -> Result<(), CheckFault>
     ensures found { Finds (λ _. Unit {0}) result
         (first_broken (inner_name_rules place visible.old (listing_tree listing.now))) }
@@ -102,7 +102,7 @@ fn declare_inner(visible: &mut Names, place: Place, listing: &Listing) -> Result
     Ok(())
 }
 
-/// Checks a statement but for its blocks, and goes on behind it.
+// Checks a statement but for its blocks, and goes on behind it.
 fn check_own(
     tables: &Tables<'_>,
     program: usize,
@@ -129,7 +129,7 @@ fn check_own(
     Ok(())
 }
 
-/// Checks one statement of a block, and answers whether it aborts.
+// Checks one statement of a block, and answers whether it aborts.
 #[cycle(walk)]
 fn check_stmt(
     tables: &Tables<'_>,
@@ -162,7 +162,7 @@ fn check_stmt(
     }
 }
 
-/// Checks the names and the body of an `each` of this number, behind which these names end.
+// Checks the names and the body of an `each` of this number, behind which these names end.
 #[cycle(walk)]
 fn check_body(
     tables: &Tables<'_>,

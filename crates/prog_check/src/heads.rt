@@ -34,7 +34,7 @@ pub fn check_tables(alloc: Global, tables: &[TableDecl]) -> Result<Names, CheckF
     Ok(names)
 }
 
-/// Checks that no parameter is repeated, and gives them as visible names.
+// Checks that no parameter is repeated, and gives them as visible names.
 fn check_params(alloc: Global, place: Place, params: &[Name]) -> Result<Names, CheckFault>
     ensures { Finds (λ names. names ≡ params.now) result
         (first_broken ((has_twice params.now, DuplicateParameter place) ∷ [])) }
@@ -48,8 +48,8 @@ fn check_params(alloc: Global, place: Place, params: &[Name]) -> Result<Names, C
     Ok(visible)
 }
 
-/// Checks a program's name and parameters behind the programs of these names, and gives its
-/// parameters as visible names.
+// Checks a program's name and parameters behind the programs of these names, and gives its
+// parameters as visible names.
 fn check_head(alloc: Global, earlier: &mut Names, program: &Program) -> Result<Names, CheckFault>
     ensures found { Finds (λ names. names ≡ program.now.params.items) result
         (first_broken (program_rules earlier.old (program_tree program.now))) }
@@ -70,7 +70,7 @@ fn check_head(alloc: Global, earlier: &mut Names, program: &Program) -> Result<N
     check_params(alloc, place, &program.params)
 }
 
-/// Checks a program behind the programs of these names, which its own name joins.
+// Checks a program behind the programs of these names, which its own name joins.
 fn check_program(
     alloc: Global,
     tables: &Tables<'_>,

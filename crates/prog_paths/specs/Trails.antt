@@ -1,6 +1,7 @@
 -- Ways through a program as far as they have come, and what a statement adds to each.
 use Rattle.std.specs.Prelude.{ℕ, ◌*◌, ◌≤◌, Bool, true, false, not, ◌&&◌, ◌||◌, List, [], ◌∷◌, ◌++◌, map, Option, None}
 use Rattle.std.specs.List.{AllByRecursion}
+use Rattle.std.specs.Option.{option_map_or}
 use Rattle.prog_tree.specs.declared.table.TableDecl.{TableDecl}
 use Rattle.prog_tree.specs.Syntax.{Name, BlockTree, BlockEnd, Then, Branch, Each, StmtTree, Plain, Fork, Loop, block_from}
 use Rattle.prog_check.specs.declared.path.Kind.{Kind}
@@ -8,28 +9,22 @@ use Rattle.prog_check.specs.declared.path.Access.{Access}
 use Rattle.prog_check.specs.declared.path.Path.{Path}
 use Rattle.prog_check.specs.Accesses.{Columns, columns_of, next_unknown, accesses_of, kinds_of}
 use Rattle.prog_check.specs.Paths.{Passed, Route, body_passed, accesses_along}
-use Rattle.prog_check.specs.Uses.{is_abort, as_count}
+use Rattle.prog_check.specs.Uses.{is_abort, own_statement}
 use Rattle.prog_paths.specs.declared.path.trail.Trail.{Trail}
 
 -- ---- statements
 
--- what a statement does to its table; a branch itself does nothing, and an `each` itself does what a `count` does
+-- what a statement itself, without its blocks, does to its table
 abbrev pub kinds_by : (grow : Bool) → StmtTree → List Kind
-kinds_by grow (Plain s) = kinds_of grow s
-kinds_by grow (Fork test a b) = []
-kinds_by grow (Loop l body) = kinds_of grow (as_count l)
+kinds_by grow stmt = option_map_or (kinds_of grow) (own_statement stmt) []
 
 abbrev pub columns_by : (params : List Name) → (unknown : ℕ) → StmtTree → Option Columns
-columns_by params unknown (Plain s) = columns_of params unknown s
-columns_by params unknown (Fork test a b) = None
-columns_by params unknown (Loop l body) = columns_of params unknown (as_count l)
+columns_by params unknown stmt = option_map_or (columns_of params unknown) (own_statement stmt) None
 
 abbrev pub accesses_added : List TableDecl → (params : List Name)
     → (unknown : ℕ) (sure : Bool) (number : ℕ) → StmtTree → List Access
-accesses_added tables params unknown sure number (Plain s) = accesses_of tables params unknown sure number s
-accesses_added tables params unknown sure number (Fork test a b) = []
-accesses_added tables params unknown sure number (Loop l body) =
-    accesses_of tables params unknown sure number (as_count l)
+accesses_added tables params unknown sure number stmt =
+    option_map_or (accesses_of tables params unknown sure number) (own_statement stmt) []
 
 -- a block that is one statement
 abbrev pub alone : StmtTree → BlockTree

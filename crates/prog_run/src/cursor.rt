@@ -1,7 +1,8 @@
 //! Where a run stands in its program.
 ghost use Rattle.std.specs.Prelude.{◌≡◌, true, [], ◌∷◌, ◌++◌, length, IfOk, OnOk, OnErr};
 ghost use Rattle.std.specs.Prelude.{if◌then◌else◌};
-ghost use Rattle.prog_tree.specs.Tree.{listing_tree, block_tree, stmts_tree};
+ghost use Rattle.prog_tree.specs.Syntax.{Then, Branch, Bind, Reply};
+ghost use Rattle.prog_tree.specs.Tree.{expr_tree, test_tree, listing_tree, block_tree, stmts_tree};
 ghost use Rattle.prog_run.specs.Todo.{inside};
 ghost use Rattle.prog_run.specs.Cursor.{open_tree, cursor_tree, is_store, KeepsStore, SameTodo};
 ghost use Rattle.prog_run.specs.Cursor.{IsLocalStep, IsSettled};
@@ -17,7 +18,10 @@ use crate::region::{Found, look_at_region};
 use crate::statement::{OVERFLOW, begin, count_rows, sum_rows};
 use crate::task::{RegionUse, task_of};
 use prog_check::ProgramSet;
-use prog_tree::{Block, Cause, Cell, Deed, End, Listing, Look, Progress, Region, Sequence, Stmt};
+use prog_tree::{
+    Block, Cause, Cell, Deed, End, Expr, Listing, Look, Name, Progress, Region, Sequence, Stmt,
+    Test,
+};
 use std::alloc::AllocError;
 use std::mem;
 
@@ -40,7 +44,7 @@ pub enum Standing {
 }
 
 impl<'a> Cursor<'a> {
-    /// At the end of the innermost block begins its next turn, or leaves it.
+    // At the end of the innermost block begins its next turn, or leaves it.
     fn leave(&mut self, progress: &mut Progress<'a>) -> Result<Standing, AllocError>
         requires { self.old.here.rest.now ≡ [] }
         ensures step { IfOk result
@@ -64,7 +68,7 @@ impl<'a> Cursor<'a> {
         Ok(Standing::Moved)
     }
 
-    /// Enters a block, behind which the run goes on with `rest`.
+    // Enters a block, behind which the run goes on with `rest`.
     fn enter(&mut self, block: OpenBlock<'a>, rest: &'a [Stmt]) -> Result<(), AllocError>
         ensures ok { OnOk result (cursor_tree self.new ≡ inside (open_tree block.entry)
             (stmts_tree rest.now) (cursor_tree self.old)) }
@@ -77,8 +81,83 @@ impl<'a> Cursor<'a> {
         Ok(())
     }
 
-    /// Does a statement without the store; at the end of a block begins its next turn, or leaves
-    /// it.
+    // Binds a name to a value, and goes on with `rest`.
+    fn bind(
+        &mut self,
+        progress: &mut Progress<'a>,
+        name: &'a Name,
+        value: &Expr,
+        rest: &'a [Stmt],
+    ) -> Result<Standing, AllocError>
+        requires { stmts_tree self.old.here.rest.now
+            ≡ Then (Bind name.now (expr_tree value.now)) (stmts_tree rest.now) }
+        ensures step { IfOk result
+            (λ s. IsLocalStep s (cursor_tree self.old) progress.old
+            (cursor_tree self.new) progress.new) }
+        ensures err { OnErr result (cursor_tree self.new ≡ cursor_tree self.old) }
+        ensures err_progress { OnErr result (progress.new ≡ progress.old) }
+    {
+        let Some(value) = value.value(&progress.env) else {
+            return Ok(Standing::Over(OVERFLOW));
+        };
+        progress.env.bind(name, value)?;
+        self.here.rest = rest;
+        Ok(Standing::Moved)
+    }
+
+    // Replies a value, and goes on with `rest`.
+    fn reply(
+        &mut self,
+        progress: &mut Progress<'a>,
+        value: &Expr,
+        rest: &'a [Stmt],
+    ) -> Result<Standing, AllocError>
+        requires { stmts_tree self.old.here.rest.now
+            ≡ Then (Reply (expr_tree value.now)) (stmts_tree rest.now) }
+        ensures step { IfOk result
+            (λ s. IsLocalStep s (cursor_tree self.old) progress.old
+            (cursor_tree self.new) progress.new) }
+        ensures err { OnErr result (cursor_tree self.new ≡ cursor_tree self.old) }
+        ensures err_progress { OnErr result (progress.new ≡ progress.old) }
+    {
+        let Some(value) = value.value(&progress.env) else {
+            return Ok(Standing::Over(OVERFLOW));
+        };
+        progress.replies.push(value)?;
+        self.here.rest = rest;
+        Ok(Standing::Moved)
+    }
+
+    // Enters the block of a branch that its test chooses, behind which the run goes on with `rest`.
+    fn enter_branch(
+        &mut self,
+        progress: &Progress<'a>,
+        test: &Test,
+        then_block: &'a Block,
+        otherwise: &'a Block,
+        rest: &'a [Stmt],
+    ) -> Result<Standing, AllocError>
+        requires { stmts_tree self.old.here.rest.now ≡ Branch (test_tree test.now)
+            (block_tree then_block.now) (block_tree otherwise.now) (stmts_tree rest.now) }
+        ensures step { IfOk result
+            (λ s. IsLocalStep s (cursor_tree self.old) progress.now
+            (cursor_tree self.new) progress.now) }
+        ensures err { OnErr result (cursor_tree self.new ≡ cursor_tree self.old) }
+    {
+        let Some(holds) = test.holds(&progress.env) else {
+            return Ok(Standing::Over(OVERFLOW));
+        };
+        let block = OpenBlock {
+            rest: chosen_block(holds, then_block, otherwise).stmts.as_slice(),
+            scope: progress.env.len(),
+            turns: None,
+        };
+        self.enter(block, rest)?;
+        Ok(Standing::Moved)
+    }
+
+    // Does a statement without the store; at the end of a block begins its next turn, or leaves
+    // it.
     fn local_step(&mut self, progress: &mut Progress<'a>) -> Result<Standing, AllocError>
         ensures step { IfOk result
             (λ s. IsLocalStep s (cursor_tree self.old) progress.old
@@ -91,39 +170,14 @@ impl<'a> Cursor<'a> {
             return self.leave(progress);
         };
         match stmt {
-            Stmt::Bind { name, value } => {
-                let Some(value) = value.value(&progress.env) else {
-                    return Ok(Standing::Over(OVERFLOW));
-                };
-                progress.env.bind(name, value)?;
-                self.here.rest = rest;
-                Ok(Standing::Moved)
-            }
-            Stmt::Reply { value } => {
-                let Some(value) = value.value(&progress.env) else {
-                    return Ok(Standing::Over(OVERFLOW));
-                };
-                progress.replies.push(value)?;
-                self.here.rest = rest;
-                Ok(Standing::Moved)
-            }
+            Stmt::Bind { name, value } => self.bind(progress, name, value, rest),
+            Stmt::Reply { value } => self.reply(progress, value, rest),
             Stmt::Abort => Ok(Standing::Over(End::Aborted(Cause::Asked))),
             Stmt::Branch {
                 test,
                 then,
                 otherwise,
-            } => {
-                let Some(holds) = test.holds(&progress.env) else {
-                    return Ok(Standing::Over(OVERFLOW));
-                };
-                let block = OpenBlock {
-                    rest: chosen_block(holds, then, otherwise).stmts.as_slice(),
-                    scope: progress.env.len(),
-                    turns: None,
-                };
-                self.enter(block, rest)?;
-                Ok(Standing::Moved)
-            }
+            } => self.enter_branch(progress, test, then, otherwise, rest),
             Stmt::Get { .. }
             | Stmt::Need { .. }
             | Stmt::Count { .. }
@@ -137,7 +191,7 @@ impl<'a> Cursor<'a> {
         }
     }
 
-    /// Goes on to the next statement of the store, or to the end.
+    // Goes on to the next statement of the store, or to the end.
     fn settle(&mut self, progress: &mut Progress<'a>) -> Result<Option<End>, AllocError>
         ensures settled { IfOk result
             (λ end. IsSettled end (cursor_tree self.old) progress.old
@@ -155,7 +209,7 @@ impl<'a> Cursor<'a> {
         }
     }
 
-    /// Does the statement of the store at which the run stands, or asks what it has to know.
+    // Does the statement of the store at which the run stands, or asks what it has to know.
     fn store_step(
         &mut self,
         set: &ProgramSet,
@@ -233,8 +287,8 @@ impl<'a> Cursor<'a> {
         step
     }
 
-    /// Goes on with the rows that the run sees in a region, and then notes the look, which takes
-    /// them. The looks stand aside for that.
+    // Goes on with the rows that the run sees in a region, and then notes the look, which takes
+    // them. The looks stand aside for that.
     fn look(
         &mut self,
         progress: &mut Progress<'a>,
@@ -262,7 +316,7 @@ impl<'a> Cursor<'a> {
         Ok(step)
     }
 
-    /// Goes on with the rows that the run sees in a region.
+    // Goes on with the rows that the run sees in a region.
     fn use_rows(
         &mut self,
         progress: &mut Progress<'a>,
@@ -291,8 +345,8 @@ impl<'a> Cursor<'a> {
         }
     }
 
-    /// The rows of an `each` are listed: the run stands before its turns, behind which it goes on
-    /// with the rest.
+    // The rows of an `each` are listed: the run stands before its turns, behind which it goes on
+    // with the rest.
     fn list(
         &mut self,
         progress: &mut Progress<'a>,
@@ -329,7 +383,7 @@ impl<'a> Cursor<'a> {
     }
 }
 
-/// The block of a branch whose test holds, or not.
+// The block of a branch whose test holds, or not.
 fn chosen_block<'a>(holds: bool, then_block: &'a Block, otherwise: &'a Block) -> &'a Block
     ensures { result.now ≡ (if holds then then_block.now else otherwise.now) }
 {

@@ -66,7 +66,7 @@ impl<'a> Model for Run<'a> {
 // For how many statements a run makes room at most before it has done any.
 const MOST_FIRST_STATEMENTS: usize = 16;
 
-/// The parameters with their arguments, with room for so many names more.
+// The parameters with their arguments, with room for so many names more.
 fn bind_all<'a>(
     alloc: Global,
     params: &'a [Name],

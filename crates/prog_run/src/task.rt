@@ -2,10 +2,12 @@
 ghost use Rattle.std.specs.Prelude.{◌≡◌, true, Some, option_map};
 ghost use Rattle.prog_tree.specs.Numbering.{number_of};
 ghost use Rattle.prog_tree.specs.Evaluation.{cell_of};
-ghost use Rattle.prog_tree.specs.Tree.{key_tree, range_tree, stmt_tree};
+ghost use Rattle.prog_tree.specs.Tree.{expr_tree, key_tree, range_tree, stmt_tree};
+ghost use Rattle.prog_tree.specs.Value.{value_of};
 ghost use Rattle.prog_run.specs.Cursor.{is_store_stmt};
 ghost use Rattle.prog_run.specs.Looks.{question_of};
-ghost use Rattle.prog_run.specs.Task.{AskedTree, TaskTree, asked_tree, task_tree, cell_use_tree};
+ghost use Rattle.prog_run.specs.Task.{CellUseTree, AskedTree, TaskTree, asked_tree, task_tree};
+ghost use Rattle.prog_run.specs.Task.{cell_use_tree};
 ghost use Rattle.prog_run.specs.Task.{region_use_tree, task_at, task_in, task_of_stmt};
 ghost use Rattle.prog_run.specs.Step.{next_asking};
 ghost use Rattle.prog_run.specs.View.{asked_region};
@@ -120,6 +122,44 @@ fn look_at<'a>(
     Some(Task::Ask(Asked::OfCell { cell, usage }))
 }
 
+// A look at the cell of a key, which an insert sets to a value.
+fn insert_at<'a>(
+    set: &ProgramSet,
+    table: &Name,
+    key: &Key,
+    value: &Expr,
+    env: &Env,
+) -> Option<Task<'a>>
+    ensures { option_map task_tree result
+        ≡ task_at set.now.tables.items table.now (key_tree key.now) env.now
+        (λ cell. option_map (λ v. TaskTree.Ask (AskedTree.OfCell cell (CellUseTree.Insert v)))
+        (value_of (expr_tree value.now) env.now)) }
+{
+    let cell = cell_at(set, table, key, env)?;
+    let usage = CellUse::Insert {
+        value: value.value(env)?,
+    };
+    Some(Task::Ask(Asked::OfCell { cell, usage }))
+}
+
+// The cell of a key, and the value that a put sets it to.
+fn put_at<'a>(
+    set: &ProgramSet,
+    table: &Name,
+    key: &Key,
+    value: &Expr,
+    env: &Env,
+) -> Option<Task<'a>>
+    ensures { option_map task_tree result
+        ≡ task_at set.now.tables.items table.now (key_tree key.now) env.now
+        (λ cell. option_map (λ v. TaskTree.Put cell v)
+        (value_of (expr_tree value.now) env.now)) }
+{
+    let cell = cell_at(set, table, key, env)?;
+    let value = value.value(env)?;
+    Some(Task::Put { cell, value })
+}
+
 // A look at the rows of a range.
 fn look_in<'a>(
     set: &ProgramSet,
@@ -152,24 +192,14 @@ pub fn task_of<'a>(set: &ProgramSet, stmt: &'a Stmt, env: &Env) -> Option<Task<'
         } => look_at(set, table, key, env, CellUse::Get { name, otherwise }),
         Stmt::Need { name, table, key } => look_at(set, table, key, env, CellUse::Need { name }),
         Stmt::Lacks { table, key } => look_at(set, table, key, env, CellUse::Lacks),
-        Stmt::Insert { table, key, value } => {
-            let cell = cell_at(set, table, key, env)?;
-            let usage = CellUse::Insert {
-                value: value.value(env)?,
-            };
-            Some(Task::Ask(Asked::OfCell { cell, usage }))
-        }
+        Stmt::Insert { table, key, value } => insert_at(set, table, key, value, env),
         Stmt::Count { name, table, range } => {
             look_in(set, table, range, env, RegionUse::Count { name })
         }
         Stmt::Sum { name, table, range } => {
             look_in(set, table, range, env, RegionUse::Sum { name })
         }
-        Stmt::Put { table, key, value } => {
-            let cell = cell_at(set, table, key, env)?;
-            let value = value.value(env)?;
-            Some(Task::Put { cell, value })
-        }
+        Stmt::Put { table, key, value } => put_at(set, table, key, value, env),
         Stmt::Delete { table, key } => {
             let cell = cell_at(set, table, key, env)?;
             Some(Task::Remove { cell })

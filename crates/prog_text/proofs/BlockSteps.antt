@@ -145,16 +145,11 @@ first_ends stack test done before s ts e is =
 
 -- ---- the end of a second block
 
-with_rest : (x : TestTree) (first second : BlockTree) (ts : List Token) → behind_second body_at x first second ts ≡ (body_at ts >>= λ rest. Ok (Branch x first second rest.0, rest.1))
-unfolding behind_second
-with_rest x first second ts = refl
-
 pub second_ends : (stack : List Open) (test : Test) (first : Vec Stmt Global) (done : List Stmt) (before : Vec Stmt Global) (s : Stmt) (ts : List Token) → stmt_tree s ≡ Fork (test_tree test) (stmts_tree first.items) (stmts_tree done)
     → unread stack (before.items ++ s ∷ []) ts ≡ unread_behind_end (stack ++ Second test first before ∷ []) done ts
-unfolding unread unread_behind_end outward
+unfolding unread unread_behind_end outward behind_second
 second_ends stack test first done before s ts is =
     ap (outward (reverse stack)) (in_front-push before.items s (λ rest. Branch (test_tree test) (stmts_tree first.items) (stmts_tree done) rest) (body_at ts) (ap block_from is))
-    ∙ ap (λ (r : Reading BlockTree). outward (reverse stack) (in_front before.items r)) (sym (with_rest (test_tree test) (stmts_tree first.items) (stmts_tree done) ts))
     ∙ sym (innermost stack (Second test first before) (Ok (stmts_tree done, ts)))
 
 -- ---- a head and its block
@@ -202,16 +197,11 @@ turns_open stack listing before ts us vs e f =
     innermost stack (Turns listing before) (in_front [] (body_at vs)) ∙ ap (outward (Turns listing before ∷ reverse stack)) (in_front-nil (body_at vs))
     ∙ ap (λ (r : Reading BlockTree). outward (reverse stack) (in_front before.items r)) (sym (with_block listing_at (behind_turns body_at) (listing_tree listing) ts us vs e f))
 
-with_others : (l : ListingTree) (inside : BlockTree) (ts : List Token) → behind_turns body_at l inside ts ≡ (body_at ts >>= λ rest. Ok (Each l inside rest.0, rest.1))
-unfolding behind_turns
-with_others l inside ts = refl
-
 pub turns_end : (stack : List Open) (listing : Listing) (done : List Stmt) (before : Vec Stmt Global) (s : Stmt) (ts : List Token) → stmt_tree s ≡ Loop (listing_tree listing) (stmts_tree done)
     → unread stack (before.items ++ s ∷ []) ts ≡ unread_behind_end (stack ++ Turns listing before ∷ []) done ts
-unfolding unread unread_behind_end outward
+unfolding unread unread_behind_end outward behind_turns
 turns_end stack listing done before s ts is =
     ap (outward (reverse stack)) (in_front-push before.items s (λ rest. Each (listing_tree listing) (stmts_tree done) rest) (body_at ts) (ap block_from is))
-    ∙ ap (λ (r : Reading BlockTree). outward (reverse stack) (in_front before.items r)) (sym (with_others (listing_tree listing) (stmts_tree done) ts))
     ∙ sym (innermost stack (Turns listing before) (Ok (stmts_tree done, ts)))
 
 -- ---- a statement without blocks

@@ -1,5 +1,5 @@
--- Elements of lists: at a place, behind a map, in a longer list, passing a test, and by recursion.
-use Rattle.std.proofs.Common.{◌≡◌, ℕ, ◌⊎◌, inl, inr, Bool, true, List, [], ◌∷◌, ◌++◌, length, map, refl, sym, subst, ap, ◌∙◌, arith, zero, suc, Contains, Some}
+-- Elements of lists: at a place, behind a map, in a longer list, left of it, passing a test, and by recursion.
+use Rattle.std.proofs.Common.{◌≡◌, ◌+◌, ℕ, ◌⊎◌, inl, inr, Bool, true, List, [], ◌∷◌, ◌++◌, length, map, refl, sym, subst, ap, ◌∙◌, append_assoc, append-nil, arith, zero, suc, Contains, Some}
 use Rattle.std.specs.Prelude.{slice_get, All}
 use Rattle.std.specs.List.{list_any}
 use Rattle.std.proofs.lemmas.Bool.{false≢true, or_cases}
@@ -45,6 +45,24 @@ get_left (y ∷ xs) ys (suc n) x at = get_left xs ys n x at
 pub get_seam : {A : Type 0} (xs ys : List A) (x : A) → slice_get (xs ++ x ∷ ys) (length xs) ≡ Some x
 get_seam [] ys x = refl
 get_seam (y ∷ xs) ys x = get_seam xs ys x
+
+-- what stands behind a list stands so many places on
+pub at-right : {A : Type 0} (xs ys : List A) (k : ℕ) (p : A) → slice_get ys k ≡ Some p → slice_get (xs ++ ys) (length xs + k) ≡ Some p
+at-right [] ys k p at = let e : 0 + k ≡ k = omega arith in subst (λ (i : ℕ). slice_get ys i ≡ Some p) (sym e) at
+at-right (x ∷ xs) ys k p at =
+    let e : suc (length xs) + k ≡ suc (length xs + k) = omega arith in
+    subst (λ (i : ℕ). slice_get (x ∷ xs ++ ys) i ≡ Some p) (sym e) (at-right xs ys k p at)
+
+-- ---- what is left of a list
+
+-- a loop that takes one more of a list
+pub more_yielded : {X : Type 0} (yielded rest all left : List X) (x : X) → yielded ++ left ≡ all → left ≡ x ∷ rest → (yielded ++ x ∷ []) ++ rest ≡ all
+more_yielded {X = X} yielded rest all left x is first = append_assoc yielded (x ∷ []) rest ∙ ap (λ (l : List X). yielded ++ l) (sym first) ∙ is
+
+-- and one that took all
+pub all_yielded : {X : Type 0} (yielded left all : List X) → yielded ++ left ≡ all → length left ≡ 0 → yielded ≡ all
+all_yielded yielded [] all is none = sym (append-nil yielded) ∙ is
+all_yielded yielded (x ∷ left) all is none = absurd (omega (arith, none))
 
 -- ---- passing a test
 

@@ -2,7 +2,9 @@
 
 ghost use Rattle.std.specs.Prelude.{◌≡◌, ◌↔◌, IfOk, IsTrue};
 ghost use Rattle.prog_tree.specs.Evaluation.{cell_of, region_of};
-ghost use Rattle.prog_tree.specs.Tree.{key_tree, range_tree, listing_tree, stmt_tree, block_tree};
+ghost use Rattle.prog_tree.specs.Syntax.{Fork, Loop};
+ghost use Rattle.prog_tree.specs.Tree.{key_tree, range_tree, listing_tree, test_tree};
+ghost use Rattle.prog_tree.specs.Tree.{stmt_tree, block_tree};
 
 use crate::cell::{Cell, Region};
 use crate::env::Env;
@@ -289,58 +291,67 @@ impl Stmt {
 
     /// Whether both mean the same.
     #[cycle(compares)]
-    #[tactic(auto, using(crate::proofs::TreeLemmas::same_branch, crate::proofs::TreeLemmas::same_loop))]
     pub(crate) fn is_same(&self, other: &Stmt) -> bool
         ensures { IsTrue result ↔ (stmt_tree self.now ≡ stmt_tree other.now) }
     {
-        match self {
-            Stmt::Bind { name, value } => same_bind(other, name, value),
+        match other {
+            Stmt::Bind { name, value } => same_bind(self, name, value),
             Stmt::Get {
                 name,
                 table,
                 key,
                 otherwise,
-            } => same_get(other, name, table, key, otherwise),
-            Stmt::Need { name, table, key } => same_need(other, name, table, key),
-            Stmt::Count { name, table, range } => same_count(other, name, table, range),
-            Stmt::Sum { name, table, range } => same_sum(other, name, table, range),
-            Stmt::Lacks { table, key } => same_lacks(other, table, key),
-            Stmt::Put { table, key, value } => same_put(other, table, key, value),
-            Stmt::Insert { table, key, value } => same_insert(other, table, key, value),
-            Stmt::Delete { table, key } => same_delete(other, table, key),
-            Stmt::Keep { table, key } => same_keep(other, table, key),
+            } => same_get(self, name, table, key, otherwise),
+            Stmt::Need { name, table, key } => same_need(self, name, table, key),
+            Stmt::Count { name, table, range } => same_count(self, name, table, range),
+            Stmt::Sum { name, table, range } => same_sum(self, name, table, range),
+            Stmt::Lacks { table, key } => same_lacks(self, table, key),
+            Stmt::Put { table, key, value } => same_put(self, table, key, value),
+            Stmt::Insert { table, key, value } => same_insert(self, table, key, value),
+            Stmt::Delete { table, key } => same_delete(self, table, key),
+            Stmt::Keep { table, key } => same_keep(self, table, key),
             Stmt::Branch {
                 test,
                 then,
                 otherwise,
-            } => match other {
-                Stmt::Branch {
-                    test: t,
-                    then: a,
-                    otherwise: b,
-                } => {
-                    if !test.is_same(t) {
-                        return false;
-                    }
-                    then.is_same(a) && otherwise.is_same(b)
-                }
-                _ => false,
-            },
-            Stmt::Each { listing, body } => match other {
-                Stmt::Each {
-                    listing: l,
-                    body: b,
-                } => {
-                    if !listing.is_same(l) {
-                        return false;
-                    }
-                    body.is_same(b)
-                }
-                _ => false,
-            },
-            Stmt::Reply { value } => same_reply(other, value),
-            Stmt::Abort => matches!(other, Stmt::Abort),
+            } => same_branch(self, test, then, otherwise),
+            Stmt::Each { listing, body } => same_each(self, listing, body),
+            Stmt::Reply { value } => same_reply(self, value),
+            Stmt::Abort => matches!(self, Stmt::Abort),
         }
+    }
+}
+
+// What a statement with blocks is compared with; those without are in stmt_same.rt
+
+#[cycle(compares)]
+#[tactic(auto, using(crate::proofs::TreeLemmas::is_fork))]
+fn same_branch(stmt: &Stmt, test: &Test, then: &Block, otherwise: &Block) -> bool
+    ensures { IsTrue result ↔ (stmt_tree stmt.now ≡
+        Fork (test_tree test.now) (block_tree then.now) (block_tree otherwise.now)) }
+{
+    match stmt {
+        Stmt::Branch {
+            test: t,
+            then: a,
+            otherwise: b,
+        } => t.is_same(test) && a.is_same(then) && b.is_same(otherwise),
+        _ => false,
+    }
+}
+
+#[cycle(compares)]
+#[tactic(auto, using(crate::proofs::TreeLemmas::is_loop))]
+fn same_each(stmt: &Stmt, listing: &Listing, body: &Block) -> bool
+    ensures { IsTrue result ↔ (stmt_tree stmt.now ≡
+        Loop (listing_tree listing.now) (block_tree body.now)) }
+{
+    match stmt {
+        Stmt::Each {
+            listing: l,
+            body: b,
+        } => l.is_same(listing) && b.is_same(body),
+        _ => false,
     }
 }
 

@@ -3,21 +3,27 @@ use Rattle.std.specs.Prelude.{ℕ, ◌≡◌, ◌+◌, List, [], ◌∷◌, ◌+
 use Rattle.std.specs.Fmt.{decimal}
 use Rattle.text_places.specs.Places.{line_number}
 use Rattle.text_places.specs.Quotes.{pointed_out, visible}
+use Rattle.run_words.specs.declared.in_input.Part.{Part}
 
--- the line of a place of a part in the whole input, with the bytes that stand ahead of the part
-abbrev pub input_line : (ahead part : List ℕ) → (place : ℕ) → ℕ
-input_line ahead part place = line_number (ahead ++ part) (length ahead + place)
+-- the line of a place of a part in the whole input
+abbrev pub input_line : Part → (place : ℕ) → ℕ
+input_line part place = line_number (part.ahead.now ++ part.bytes.now) (length part.ahead.now + place)
 
 -- as ` (line 12 of the input)`
 abbrev pub numbered_text : (line : ℕ) → List ℕ
 numbered_text line = codes " (line " ++ (decimal line ++ codes " of the input)")
 
+-- a text where something stands ahead of a part, and else nothing
+abbrev pub where_ahead : (ahead text : List ℕ) → List ℕ
+where_ahead [] text = []
+where_ahead (byte ∷ bytes) text = text
+
 -- nothing where the part is the whole
-abbrev pub input_line_text : (ahead part : List ℕ) → (place : ℕ) → List ℕ
-input_line_text [] part place = []
-input_line_text (byte ∷ bytes) part place = numbered_text (input_line (byte ∷ bytes) part place)
+abbrev pub input_line_text : Part → (place : ℕ) → List ℕ
+input_line_text part place = where_ahead part.ahead.now (numbered_text (input_line part place))
 
 -- some sentence is said of the place, in one line, with its line in the whole input behind it
-abbrev pub PointsInPart : (ahead part : List ℕ) → (place : ℕ) → (words : List ℕ) → Type 0
-PointsInPart ahead part place words =
-    (sentence : List ℕ) × (words ≡ pointed_out part place (map visible sentence ++ input_line_text ahead part place))
+abbrev pub PointsInPart : Part → (place : ℕ) → (words : List ℕ) → Type 0
+PointsInPart part place words =
+    (sentence : List ℕ)
+    × (words ≡ pointed_out part.bytes.now place (map visible sentence ++ input_line_text part place))

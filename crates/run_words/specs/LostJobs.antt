@@ -6,11 +6,11 @@ use Rattle.text_places.specs.Landmarks.{HasNoJob, IsJobPlace}
 use Rattle.text_places.specs.Places.{line_number}
 use Rattle.text_places.specs.Quotes.{visible}
 use Rattle.prog_tree.specs.Syntax.{DraftTree}
-use Rattle.si_workers.specs.declared.job.Job.{Job}
 use Rattle.si_workers.specs.declared.job.JobOutcome.{JobOutcome}
 use Rattle.si_workers.specs.declared.job.Way.{Way}
 use Rattle.si_workers.specs.declared.job.Way.TheVariants.{Aborted, Clashed, Refused}
 use Rattle.si_workers.specs.Ways.{is_in}
+use Rattle.run_words.specs.declared.in_input.Part.{Part}
 use Rattle.run_words.specs.declared.lost_jobs.ToldJobs.{ToldJobs}
 use Rattle.run_words.specs.EachLine.{TellsEach}
 use Rattle.run_words.specs.InInput.{input_line_text}
@@ -28,31 +28,26 @@ numbers_lost way outcomes =
     filter (λ number. is_lost_by way (slice_get outcomes number)) (range_with_len 0 (length outcomes))
 
 -- as `line 3 (line 12 of the input)`
-abbrev pub place_text : (ahead part : List ℕ) → (place : ℕ) → List ℕ
-place_text ahead part place =
-    codes "line " ++ (decimal (line_number part place) ++ input_line_text ahead part place)
+abbrev pub place_text : Part → (place : ℕ) → List ℕ
+place_text part place = codes "line " ++ (decimal (line_number part.bytes.now place) ++ input_line_text part place)
 
 -- the text tells where the job of this number stands; one that is not found is told by its number
-abbrev pub IsJobText : (ahead part : List ℕ) → (number : ℕ) → (text : List ℕ) → Type 0
-IsJobText ahead part number text =
-    ((place : ℕ) × IsJobPlace part number place × (text ≡ place_text ahead part place))
-    ⊎ (HasNoJob part number × (text ≡ codes "job " ++ decimal number))
+abbrev pub IsJobText : Part → (number : ℕ) → (text : List ℕ) → Type 0
+IsJobText part number text =
+    ((place : ℕ) × IsJobPlace part.bytes.now number place × (text ≡ place_text part place))
+    ⊎ (HasNoJob part.bytes.now number × (text ≡ codes "job " ++ decimal number))
 
 -- the one line tells where the job of this number stands, and then what there is to say of it
-abbrev pub IsJobLine : (ahead part : List ℕ) → (number : ℕ) → (sentence line : List ℕ) → Type 0
-IsJobLine ahead part number sentence line =
-    (text : List ℕ) × IsJobText ahead part number text
+abbrev pub IsJobLine : Part → (number : ℕ) → (sentence line : List ℕ) → Type 0
+IsJobLine part number sentence line =
+    (text : List ℕ) × IsJobText part number text
     × (line ≡ codes "  " ++ (text ++ (codes ": " ++ (map visible sentence ++ codes "\n"))))
 
 -- where the job of this number stands, its call, and why it did not commit
-abbrev pub TellsJob :
-    DraftTree → List Job → List JobOutcome → (ahead part : List ℕ) → (number : ℕ) → (line : List ℕ) → Type 0
-TellsJob set jobs outcomes ahead part number line =
-    (sentence : List ℕ) × IsJobSentence set jobs outcomes number sentence × IsJobLine ahead part number sentence line
-
--- the same of a list of jobs with what came of each, which is a part of an input
-abbrev pub TellsJobIn : DraftTree → ToldJobs → (number : ℕ) → (line : List ℕ) → Type 0
-TellsJobIn set told = TellsJob set told.jobs.now told.outcomes.now told.part.ahead.now told.part.bytes.now
+abbrev pub TellsJob : DraftTree → ToldJobs → (number : ℕ) → (line : List ℕ) → Type 0
+TellsJob set told number line =
+    (sentence : List ℕ) × IsJobSentence set told.jobs.now told.outcomes.now number sentence
+    × IsJobLine told.part number sentence line
 
 -- that there are so many more
 abbrev pub more_text : (count : ℕ) → List ℕ

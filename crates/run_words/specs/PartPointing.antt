@@ -9,6 +9,7 @@ use Rattle.history_book.specs.declared.audit.AuditFault.{AuditFault}
 use Rattle.history_book.specs.declared.audit.AuditFault.TheVariants as a
 use Rattle.si_engine.specs.declared.input.line_fault.LineFault.{LineFault}
 use Rattle.si_engine.specs.declared.input.line_fault.LineFault.TheVariants as l
+use Rattle.run_words.specs.declared.in_input.Part.{Part}
 use Rattle.run_words.specs.InInput.{PointsInPart}
 
 -- the line that the line of a fault names, which want of memory has not
@@ -22,10 +23,10 @@ line_of_fault (l.TooManyEvents line) = Some line
 line_of_fault l.Memory = None
 
 -- the words point at the front of the line, with its line in the whole input
-abbrev pub PointsAtLineIn : (ahead part : List ℕ) → Option ℕ → (words : List ℕ) → Type 0
-PointsAtLineIn ahead part (Some line) words =
-    (front : ℕ) × IsLineFront part line front × PointsInPart ahead part front words
-PointsAtLineIn ahead part None words = ⊥
+abbrev pub PointsAtLineIn : Part → Option ℕ → (words : List ℕ) → Type 0
+PointsAtLineIn part (Some line) words =
+    (front : ℕ) × IsLineFront part.bytes.now line front × PointsInPart part front words
+PointsAtLineIn part None words = ⊥
 
 -- nothing is pointed at: the fault names no line, or the part has fewer
 abbrev pub HasNoLineOf : (part : List ℕ) → Option ℕ → Type 0
@@ -39,10 +40,10 @@ record_of_fault (a.Row number fault) = Some number
 record_of_fault a.Memory = None
 
 -- the words point at the beginning of the record, with its line in the whole input
-abbrev pub PointsAtRecord : (ahead part : List ℕ) → Option ℕ → (words : List ℕ) → Type 0
-PointsAtRecord ahead part (Some number) words =
-    (place : ℕ) × IsRecordPlace part number place × PointsInPart ahead part place words
-PointsAtRecord ahead part None words = ⊥
+abbrev pub PointsAtRecord : Part → Option ℕ → (words : List ℕ) → Type 0
+PointsAtRecord part (Some number) words =
+    (place : ℕ) × IsRecordPlace part.bytes.now number place × PointsInPart part place words
+PointsAtRecord part None words = ⊥
 
 -- nothing is pointed at: the fault names no record, or fewer begin in the part
 abbrev pub HasNoRecordOf : (part : List ℕ) → Option ℕ → Type 0

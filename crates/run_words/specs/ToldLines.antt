@@ -6,6 +6,7 @@ use Rattle.si_engine.specs.declared.event.Event.{Event}
 use Rattle.si_engine.specs.declared.event.Event.TheVariants as event
 use Rattle.si_engine.specs.declared.event.Reply.{Reply}
 use Rattle.si_engine.specs.declared.event.Reply.TheVariants as reply
+use Rattle.run_words.specs.declared.in_input.Part.{Part}
 use Rattle.run_words.specs.declared.refusals.Refusals.{Refusals}
 use Rattle.run_words.specs.declared.refusals.Refusal.{Refusal}
 use Rattle.run_words.specs.declared.refusals.Refusal.TheVariants as refusal
@@ -142,9 +143,9 @@ TellsNoMore before after =
     × (is_lost after ≡ is_lost before)
 
 -- the words point at the front of the line, with its line in the whole input; a line that the part has not is left out
-abbrev pub TellsLine : (ahead part : List ℕ) → Refused → (words : List ℕ) → Type 0
-TellsLine ahead part refused words =
-    PointsAtLineIn ahead part (Some refused.line) words ⊎ (HasNoLine part refused.line × (words ≡ []))
+abbrev pub TellsLine : Part → Refused → (words : List ℕ) → Type 0
+TellsLine part refused words =
+    PointsAtLineIn part (Some refused.line) words ⊎ (HasNoLine part.bytes.now refused.line × (words ≡ []))
 
 -- how many lines name an instance that has not begun
 abbrev pub following_text : (count : ℕ) → List ℕ
@@ -158,8 +159,8 @@ further_text count =
     if count == 0 then [] else codes "further lines that do nothing: " ++ (decimal count ++ codes "\n")
 
 -- the words tell the first line, then each other one that is told, and how many more there are
-abbrev pub TellsRefused : (ahead part : List ℕ) → Refusals → (words : List ℕ) → Type 0
-TellsRefused ahead part refusals words =
-    (line lines : List ℕ) × PointsAtLineIn ahead part (first_told refusals) line
-    × TellsEach (TellsLine ahead part) (drop 1 (told_lines refusals)) lines
+abbrev pub TellsRefused : Part → Refusals → (words : List ℕ) → Type 0
+TellsRefused part refusals words =
+    (line lines : List ℕ) × PointsAtLineIn part (first_told refusals) line
+    × TellsEach (TellsLine part) (drop 1 (told_lines refusals)) lines
     × (words ≡ line ++ (lines ++ (following_text refusals.following ++ further_text refusals.more)))

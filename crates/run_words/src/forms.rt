@@ -44,10 +44,16 @@ pub fn command_of(first: &str) -> Option<&'static str> {
     }
 }
 
-// How many words stand before the numbers of a line that begins with a word, and its form, but for
-// the limits of its numbers.
-fn line_form(first: &str) -> (usize, &'static str) {
-    match first {
+// What the lines are that begin with a word.
+#[derive(Clone, Copy, Debug)]
+struct LineForm {
+    words_before_numbers: usize,
+    // The form, but for the limits of its numbers.
+    text: &'static str,
+}
+
+fn line_form(first: &str) -> LineForm {
+    let (words_before_numbers, text) = match first {
         "row" => (2, "`row TABLE KEY = VALUE`, or `row TABLE KEY KEY = VALUE`"),
         "begin" => (
             2,
@@ -64,17 +70,16 @@ fn line_form(first: &str) -> (usize, &'static str) {
         "record" => (2, "`record PROGRAM ARGUMENTS at START gives REPLIES`"),
         "job" => (3, "`job RETRIES PROGRAM ARGUMENTS`"),
         _ => (1, ""),
+    };
+    LineForm {
+        words_before_numbers,
+        text,
     }
-}
-
-fn words_before_numbers(first: &str) -> usize {
-    let (count, _) = line_form(first);
-    count
 }
 
 /// What stands in a line that begins with a word.
 pub fn form_of(alloc: Global, first: &str) -> Result<String, AllocError> {
-    let (_, form) = line_form(first);
+    let form = line_form(first).text;
     match first {
         "step" => format!(in alloc; "{form} with 1 to {MAX_STEPS} times"),
         "job" => {
@@ -117,7 +122,7 @@ pub fn no_number<'a>(words: &[&'a str]) -> Option<&'a str> {
     match words {
         ["job", retries, ..] if !is_retries(*retries) => Some(*retries),
         ["begin-at", start, ..] if !is_number(*start, "at") => Some(*start),
-        [first, ..] => no_number_from(words, words_before_numbers(*first)),
+        [first, ..] => no_number_from(words, line_form(*first).words_before_numbers),
         [] => None,
     }
 }
@@ -127,6 +132,6 @@ pub fn name_in<'a>(words: &[&'a str]) -> Option<&'a str> {
     let [first, ..] = words else {
         return None;
     };
-    let count = words_before_numbers(*first);
+    let count = line_form(*first).words_before_numbers;
     words.get(count.saturating_sub(1)).copied()
 }

@@ -16,7 +16,7 @@ pub struct Part<'a> {
 // The line of a place of a part in the whole input.
 #[tactic(auto, using(crate::proofs::WholeInput::line_behind))]
 fn input_line(part: Part<'_>, place: usize) -> usize
-    ensures { result ≡ input_line part.entry.ahead.now part.entry.bytes.now place }
+    ensures { result ≡ input_line part.entry place }
 {
     let feeds_ahead = feeds(part.ahead);
     let feeds_within = feeds(before(part.bytes, place));
@@ -31,8 +31,7 @@ fn numbered_text(alloc: Global, line: usize) -> Result<String, AllocError>
 
 /// The line of a place of a part in the whole input; nothing where the part is the whole.
 pub fn input_line_text(alloc: Global, part: Part<'_>, place: usize) -> Result<String, AllocError>
-    ensures { IfOk result (λ text. string_bytes text
-        ≡ input_line_text part.entry.ahead.now part.entry.bytes.now place) }
+    ensures { IfOk result (λ text. string_bytes text ≡ input_line_text part.entry place) }
 {
     let [_, ..] = part.ahead else {
         return Ok(String::new(alloc));
@@ -48,11 +47,9 @@ pub fn point_in_part(
     place: usize,
     sentence: &str,
 ) -> Result<String, AllocError>
-    ensures points { IfOk result (λ words. PointsInPart part.entry.ahead.now part.entry.bytes.now
-        place (string_bytes words)) }
+    ensures points { IfOk result (λ words. PointsInPart part.entry place (string_bytes words)) }
     ensures said { IfOk result (λ words. string_bytes words ≡ pointed_out part.entry.bytes.now place
-        (map visible sentence.now
-        ++ input_line_text part.entry.ahead.now part.entry.bytes.now place)) }
+        (map visible sentence.now ++ input_line_text part.entry place)) }
 {
     let line = input_line_text(alloc, part, place)?;
     let shown = visible_text(alloc, sentence.as_bytes())?;

@@ -133,8 +133,7 @@ pub fn line_fault_words(
     fault: LineFault,
 ) -> Result<Option<String>, AllocError>
     ensures said { IfOk result (λ said. IfSome said (λ words.
-        PointsAtLineIn part.entry.ahead.now part.entry.bytes.now (line_of_fault fault)
-        (string_bytes words))) }
+        PointsAtLineIn part.entry (line_of_fault fault) (string_bytes words))) }
     ensures none { IfOk result (λ said. IfNone said
         (HasNoLineOf part.entry.bytes.now (line_of_fault fault))) }
 {

@@ -6,8 +6,7 @@ ghost use Rattle.text_places.specs.Landmarks.{HasNoJob, IsJobPlace};
 ghost use Rattle.run_words.specs.EachLine.{TellsEach};
 ghost use Rattle.run_words.specs.Limits.{most_told};
 ghost use Rattle.run_words.specs.LostJobs.{is_lost_by, more_text, numbers_lost, place_text};
-ghost use Rattle.run_words.specs.LostJobs.{IsJobLine, IsJobText, TellsJobIn, TellsLosses};
-ghost use Rattle.run_words.specs.LostJobs.{TellsLost};
+ghost use Rattle.run_words.specs.LostJobs.{IsJobLine, IsJobText, TellsJob, TellsLosses, TellsLost};
 
 use crate::in_input::{Part, input_line_text};
 use crate::job_reasons::job_sentence;
@@ -60,8 +59,7 @@ pub struct ToldJobs<'a> {
 }
 
 fn place_text(alloc: Global, part: Part<'_>, place: usize) -> Result<String, AllocError>
-    ensures { IfOk result (λ text. string_bytes text
-        ≡ place_text part.entry.ahead.now part.entry.bytes.now place) }
+    ensures { IfOk result (λ text. string_bytes text ≡ place_text part.entry place) }
 {
     let line = line_number(part.bytes, place);
     let whole = input_line_text(alloc, part, place)?;
@@ -77,8 +75,7 @@ fn job_text(
 ) -> Result<String, AllocError>
     requires job { IfSome spot (λ spot. IsJobPlace part.bytes.now number spot.place) }
     requires none { IfNone spot (HasNoJob part.bytes.now number) }
-    ensures { IfOk result (λ text. IsJobText part.entry.ahead.now part.entry.bytes.now number
-        (string_bytes text)) }
+    ensures { IfOk result (λ text. IsJobText part.entry number (string_bytes text)) }
 {
     match spot {
         Some(spot) => place_text(alloc, part, spot.place),
@@ -96,8 +93,7 @@ fn job_line(
 ) -> Result<String, AllocError>
     requires job { IfSome spot (λ spot. IsJobPlace part.bytes.now number spot.place) }
     requires none { IfNone spot (HasNoJob part.bytes.now number) }
-    ensures { IfOk result (λ line. IsJobLine part.entry.ahead.now part.entry.bytes.now number
-        sentence.now (string_bytes line)) }
+    ensures { IfOk result (λ line. IsJobLine part.entry number sentence.now (string_bytes line)) }
 {
     let text = job_text(alloc, part, number, spot)?;
     let shown = visible_text(alloc, sentence.as_bytes())?;
@@ -113,7 +109,7 @@ fn push_jobs(
     out: &mut String,
 ) -> Result<(), AllocError>
     ensures { OnOk result ((lines : List ℕ)
-        × TellsEach (TellsJobIn (draft_tree set.now) told.entry) numbers.now lines
+        × TellsEach (TellsJob (draft_tree set.now) told.entry) numbers.now lines
         × (string_bytes out.new ≡ string_bytes out.old ++ lines)) }
 {
     let mut last = FRONT;
@@ -152,7 +148,7 @@ fn first_lines(
     told: ToldJobs<'_>,
     numbers: &[usize],
 ) -> Result<String, AllocError>
-    ensures { IfOk result (λ lines. TellsEach (TellsJobIn (draft_tree set.now) told.entry)
+    ensures { IfOk result (λ lines. TellsEach (TellsJob (draft_tree set.now) told.entry)
         (take most_told numbers.now) (string_bytes lines)) }
 {
     let mut lines = String::new(alloc);
@@ -168,8 +164,8 @@ fn lost_text(
     heading: &str,
     numbers: &[usize],
 ) -> Result<String, AllocError>
-    ensures { IfOk result (λ words. TellsLost (TellsJobIn (draft_tree set.now) told.entry)
-        heading.now numbers.now (string_bytes words)) }
+    ensures { IfOk result (λ words. TellsLost (TellsJob (draft_tree set.now) told.entry) heading.now
+        numbers.now (string_bytes words)) }
 {
     let [_, ..] = numbers else {
         return Ok(String::new(alloc));
@@ -188,8 +184,8 @@ fn jobs_lost(
     way: Way,
     heading: &str,
 ) -> Result<String, AllocError>
-    ensures { IfOk result (λ words. TellsLost (TellsJobIn (draft_tree set.now) told.entry)
-        heading.now (numbers_lost way told.entry.outcomes.now) (string_bytes words)) }
+    ensures { IfOk result (λ words. TellsLost (TellsJob (draft_tree set.now) told.entry) heading.now
+        (numbers_lost way told.entry.outcomes.now) (string_bytes words)) }
 {
     let numbers = numbers_lost(alloc, way, told.outcomes)?;
     lost_text(alloc, set, told, heading, &numbers)
@@ -202,7 +198,7 @@ pub fn lost_job_words(
     set: &ProgramSet,
     told: ToldJobs<'_>,
 ) -> Result<String, AllocError>
-    ensures { IfOk result (λ words. TellsLosses (TellsJobIn (draft_tree set.now) told.entry)
+    ensures { IfOk result (λ words. TellsLosses (TellsJob (draft_tree set.now) told.entry)
         told.entry.outcomes.now (string_bytes words)) }
 {
     let refused = jobs_lost(alloc, set, told, Way::Refused, "jobs that were refused: ")?;

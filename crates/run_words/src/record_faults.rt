@@ -179,8 +179,7 @@ pub fn record_words(
     fault: AuditFault,
 ) -> Result<Option<String>, AllocError>
     ensures said { IfOk result (λ said. IfSome said (λ words.
-        PointsAtRecord part.entry.ahead.now part.entry.bytes.now (record_of_fault fault)
-        (string_bytes words))) }
+        PointsAtRecord part.entry (record_of_fault fault) (string_bytes words))) }
     ensures none { IfOk result (λ said. IfNone said
         (HasNoRecordOf part.entry.bytes.now (record_of_fault fault))) }
 {

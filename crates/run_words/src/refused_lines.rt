@@ -43,8 +43,7 @@ fn told_line(
     refused: Refused,
 ) -> Result<Option<String>, AllocError>
     ensures said { IfOk result (λ said. IfSome said (λ words.
-        PointsAtLineIn part.entry.ahead.now part.entry.bytes.now (Some refused.line)
-        (string_bytes words))) }
+        PointsAtLineIn part.entry (Some refused.line) (string_bytes words))) }
     ensures none { IfOk result (λ said. IfNone said (HasNoLine part.entry.bytes.now refused.line)) }
 {
     let Some(front) = line_front(part.bytes, refused.line) else {
@@ -62,8 +61,7 @@ fn words_or_none(
     part: Part<'_>,
     refused: Refused,
 ) -> Result<String, AllocError>
-    ensures { IfOk result (λ words. TellsLine part.entry.ahead.now part.entry.bytes.now refused
-        (string_bytes words)) }
+    ensures { IfOk result (λ words. TellsLine part.entry refused (string_bytes words)) }
 {
     match told_line(alloc, set, part, refused)? {
         Some(words) => Ok(words),
@@ -87,7 +85,7 @@ fn push_lines(
     out: &mut String,
 ) -> Result<(), AllocError>
     ensures { OnOk result ((lines : List ℕ)
-        × TellsEach (TellsLine part.entry.ahead.now part.entry.bytes.now) told.now lines
+        × TellsEach (TellsLine part.entry) told.now lines
         × (string_bytes out.new ≡ string_bytes out.old ++ lines)) }
 {
     for refused in told {
@@ -128,7 +126,7 @@ fn told_words(
 ) -> Result<Option<String>, AllocError>
     requires { first_told refusals.now ≡ Some first.line }
     ensures said { IfOk result (λ said. IfSome said (λ words.
-        TellsRefused part.entry.ahead.now part.entry.bytes.now refusals.now (string_bytes words))) }
+        TellsRefused part.entry refusals.now (string_bytes words))) }
     ensures none { IfOk result (λ said. IfNone said (HasNoLine part.entry.bytes.now first.line)) }
 {
     let Some(first) = told_line(alloc, set, part, first)? else {
@@ -157,7 +155,7 @@ pub fn refused_words(
     refusals: &Refusals,
 ) -> Result<Option<String>, AllocError>
     ensures said { IfOk result (λ said. IfSome said (λ words.
-        TellsRefused part.entry.ahead.now part.entry.bytes.now refusals.now (string_bytes words))) }
+        TellsRefused part.entry refusals.now (string_bytes words))) }
     ensures none { IfOk result (λ said. IfNone said
         (HasNoLineOf part.entry.bytes.now (first_told refusals.now))) }
 {

@@ -9,7 +9,7 @@ loop-refused-preserved c =
     let line = c.deref.result.now in
     let told = rw (← c.deref.ensures) at c.in_ok-words.ensures in (
       before.0 ++ line,
-      TellsEach-more (TellsLine c.args.part.ahead.now c.args.part.bytes.now) c.args.told.now c.loop-refused.refused-index _ before.0 line
+      TellsEach-more (TellsLine c.args.part) c.args.told.now c.loop-refused.refused-index _ before.0 line
           c.loop-refused-test.true before.1 told,
       c.in_ok-push_str.ensures.bytes ∙ ap (λ out. out ++ line) before.2 ∙ append_assoc _ before.0 line,
     )

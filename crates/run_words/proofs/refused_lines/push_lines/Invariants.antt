@@ -6,5 +6,5 @@ use Rattle.run_words.proofs.refused_lines.push_lines.Given as goal
 -- the lines so far are added
 abbrev pub invariant-loop-refused : goal.invariant-loop-refused
 invariant-loop-refused l =
-    (lines : List ℕ) × TellsEach (TellsLine l.part.ahead.now l.part.bytes.now) (take l.refused-index l.told) lines
+    (lines : List ℕ) × TellsEach (TellsLine l.part) (take l.refused-index l.told) lines
     × (string_bytes l.out ≡ string_bytes l.fn.out ++ lines)

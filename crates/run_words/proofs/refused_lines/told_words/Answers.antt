@@ -11,7 +11,7 @@ pub returns-clause-said : goal.returns-clause-said
 returns-clause-said c =
     let first = string_bytes c.in-Some.first in
     let points = rw c.in-Some.is at c.in_ok-first.ensures.said in
-    let points_first = subst (λ (line : Option ℕ). PointsAtLineIn c.args.part.ahead.now c.args.part.bytes.now line first) (sym c.requires) points in
+    let points_first = subst (λ (line : Option ℕ). PointsAtLineIn c.args.part line first) (sym c.requires) points in
     let lines = c.in_ok-push_lines.ensures in
     let behind : c.behind_first.result.now ≡ drop 1 (told_lines c.args.refusals.now) =
     c.behind_first.ensures ∙ ap (λ (told : List Refused). drop 1 told) c.told_lines.ensures in
@@ -19,7 +19,7 @@ returns-clause-said c =
       first,
       lines.0,
       points_first,
-      subst (λ (told : List Refused). TellsEach (TellsLine c.args.part.ahead.now c.args.part.bytes.now) told lines.0) behind lines.1,
+      subst (λ (told : List Refused). TellsEach (TellsLine c.args.part) told lines.0) behind lines.1,
       c.in_ok-words.ensures.ok ∙ (λ i. first ++ (others i ++ (c.in_ok-following.ensures i ++ c.in_ok-further.ensures i))),
     )
 

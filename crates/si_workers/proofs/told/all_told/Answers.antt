@@ -1,4 +1,4 @@
-use Rattle.history_book.proofs.AuditLaws.{more_yielded}
+use Rattle.prog_tree.proofs.Elements.{more_yielded}
 use Rattle.si_workers.proofs.GatherLaws.{told-worker}
 use Rattle.si_workers.proofs.told.all_told.Goals as goal
 

@@ -1,6 +1,6 @@
 use Rattle.std.proofs.Common.{◌≡◌, length, subst, arith}
 use Rattle.si_workers.specs.Gathered.{AreToldMore}
-use Rattle.history_book.proofs.AuditLaws.{all_yielded, more_yielded}
+use Rattle.prog_tree.proofs.Elements.{all_yielded, more_yielded}
 use Rattle.si_workers.proofs.GatherLaws.{told-none, told-both}
 use Rattle.si_workers.proofs.told.tell_all.Goals as goal
 

@@ -1,9 +1,10 @@
 use Rattle.std.proofs.Common.{◌≡◌, ◌≤◌, [], length, ap, ◌∙◌, subst, arith}
 use Rattle.std.proofs.lemmas.Result.{err_from_is_err_and}
 use Rattle.prog_tree.specs.Tree.{draft_tree}
+use Rattle.prog_tree.proofs.Elements.{more_yielded, all_yielded}
 use Rattle.history_book.specs.Audit.{audited, taken_up, IsRightRow, AreRightBehind}
 use Rattle.history_book.specs.View.{BookView, history_of, most_endings}
-use Rattle.history_book.proofs.AuditLaws.{all_yielded, more_yielded, taken_up-audited, right-push, refused_at, room_left}
+use Rattle.history_book.proofs.AuditLaws.{taken_up-audited, right-push, refused_at, room_left}
 use Rattle.history_book.proofs.book.Book.audit.Goals as goal
 
 pub loop-row-init : goal.loop-row-init
