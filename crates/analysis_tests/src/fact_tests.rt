@@ -1,6 +1,8 @@
 //! Worked facts, with what they entail told by hand.
 
-use order_facts::{Closed, Fact, Facts, Node, Nodes, check_chain, is_chain, is_plain_step};
+use order_facts::{
+    Closed, Fact, Facts, Node, Nodes, check_chain, is_chain, is_plain_step, is_same_node,
+};
 use std::alloc::{AllocError, Global};
 use std::process::Abort;
 
@@ -188,6 +190,13 @@ fn some_steps_need_no_fact(rt: HostRuntime) {
     for &(a, b, plain) in STEPS.iter() {
         assert!(rt; is_plain_step(a, b) == plain, "from {a:?} to {b:?}");
     }
+}
+
+#[test]
+fn nodes_are_one_where_kind_and_number_are(rt: HostRuntime) {
+    assert!(rt; is_same_node(KEY, KEY));
+    assert!(rt; !is_same_node(KEY, A));
+    assert!(rt; !is_same_node(ONE, TWO));
 }
 
 #[test]

@@ -72,7 +72,7 @@ fn keepers_text(alloc: Global, shown: Shown<'_>, question: Question) -> Result<S
     format!(in alloc; "both {reader} and {writer} `keep`")
 }
 
-// The same two, as those that clash.
+// The two of a question, as those that clash.
 fn clashing_text(alloc: Global, shown: Shown<'_>, question: Question) -> Result<String, AllocError>
     ensures { IfOk result (λ text. string_bytes text ≡ clashing_text (seen shown.entry) question) }
 {
@@ -125,7 +125,8 @@ fn keep_text(
     format!(in alloc; "`keep {cells};` behind line {line}, so that {clashing}")
 }
 
-// The same where no parameters and numbers tell its key.
+// The cell that the first of a question looks at, which it keeps by a key that is made a parameter:
+// no parameters and numbers tell it.
 fn parameter_text(
     alloc: Global,
     shown: Shown<'_>,
@@ -191,7 +192,7 @@ fn advice_text(alloc: Global, circle: &str, first: &str, second: &str) -> Result
     )
 }
 
-// The same where both edges are one.
+// Why nothing hinders an edge that is both, how the circle closes, and what helps against it.
 fn twin_advice_text(alloc: Global, help: &str) -> Result<String, AllocError>
     ensures { IfOk result (λ words. string_bytes words ≡ twin_advice_text help.now) }
 {

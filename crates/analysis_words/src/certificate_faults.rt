@@ -72,7 +72,7 @@ fn body_size_at(shown: Shown<'_>, node: usize) -> usize
     }
 }
 
-// The same by a certificate and by the paths.
+// How many accesses of a node stand in bodies, by a certificate and by the paths.
 fn mistold_text(
     alloc: Global,
     shown: Shown<'_>,

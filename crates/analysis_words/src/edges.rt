@@ -47,7 +47,7 @@ fn change_text(alloc: Global, shown: Shown<'_>, edge: &Exposure) -> Result<Strin
     format!(in alloc; "{other}{writer}{unseen}")
 }
 
-// The same of two instances of one node, each of which may be the first.
+// What is said where one of two instances of one node looks, each of which may be the first.
 fn twin_look_text(alloc: Global, shown: Shown<'_>, edge: &Exposure) -> Result<String, AllocError>
     ensures { IfOk result (λ text. string_bytes text ≡ twin_look_text (seen shown.entry) edge.now) }
 {

@@ -47,7 +47,7 @@ fn with_single_spaces(alloc: Global, bytes: &[u8]) -> Result<Vec<u8>, AllocError
     Ok(line)
 }
 
-// The same as a terminal may show it.
+// The bytes in one line, as a terminal may show it.
 fn in_one_line(alloc: Global, bytes: &[u8]) -> Result<String, AllocError>
     ensures { IfOk result (λ line. string_bytes line ≡ in_one_line bytes.now) }
 {

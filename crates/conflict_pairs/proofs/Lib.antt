@@ -8,6 +8,7 @@ pub mod OneClass
 pub mod Entries
 pub mod Serving
 pub mod SharedVerdicts
+pub mod Taking
 pub mod Numbered
 pub mod Paired
 pub mod Collecting

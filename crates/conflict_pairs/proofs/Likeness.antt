@@ -119,8 +119,8 @@ classes-more paths old new n c long added h before x lt = subst (λ (l : List �
         let is : get_or (old ++ c ∷ []) x 0 ≡ c = get_or_push old c 0 x (long ∙ sym here) in
         subst (λ (k : ℕ). HaveSameCovers (accesses_at paths x) (accesses_at paths k)) (sym is) (subst (λ (k : ℕ). HaveSameCovers (accesses_at paths k) (accesses_at paths c)) (sym here) h)
 
-pub one_class : (paths : List Path) (classes : List ℕ) (x y : ℕ) → AreCoverClasses paths classes → x < length classes → y < length classes → get_or classes x 0 ≡ get_or classes y 0 → HaveSameCovers (accesses_at paths x) (accesses_at paths y)
-one_class paths classes x y h lt le same_class =
+pub same-class : (paths : List Path) (classes : List ℕ) (x y : ℕ) → AreCoverClasses paths classes → x < length classes → y < length classes → get_or classes x 0 ≡ get_or classes y 0 → HaveSameCovers (accesses_at paths x) (accesses_at paths y)
+same-class paths classes x y h lt le same_class =
     covers-through (accesses_at paths x) (accesses_at paths (get_or classes x 0)) (accesses_at paths y) (h.same x lt)
     (subst (λ (k : ℕ). HaveSameCovers (accesses_at paths y) (accesses_at paths k)) (sym same_class) (h.same y le))
 
@@ -139,22 +139,22 @@ like_at-classes paths classes p q classed at_p at_q h = record {
   covers =
       let within_p = slice_get_within paths p.node at_p.0 at_p.1 in
       let within_q = slice_get_within paths q.node at_q.0 at_q.1 in
-      one_class paths classes p.node q.node classed (omega (arith, within_p, classed.one_each)) (omega (arith, within_q, classed.one_each)) h.class;
+      same-class paths classes p.node q.node classed (omega (arith, within_p, classed.one_each)) (omega (arith, within_q, classed.one_each)) h.class;
 }
 
 -- ---- what is asked
 
 module _ (paths : List Path) (q : Question) (asked : IsAsked paths q) where
-  pub access-first : IsAccessOf paths q.x q.a asked.first.access
-  access-first = (asked.at_first.0, ap (λ (r : Question). slice_get paths r.x) asked.is ∙ asked.at_first.1, ap (λ (r : Question). slice_get asked.at_first.0.accesses r.a) asked.is ∙ asked.at_first.2)
+  pub asked-first : IsAccessOf paths q.x q.a asked.first.access
+  asked-first = (asked.at_first.0, ap (λ (r : Question). slice_get paths r.x) asked.is ∙ asked.at_first.1, ap (λ (r : Question). slice_get asked.at_first.0.accesses r.a) asked.is ∙ asked.at_first.2)
 
-  pub access-second : IsAccessOf paths q.y q.b asked.second.access
-  access-second = (asked.at_second.0, ap (λ (r : Question). slice_get paths r.y) asked.is ∙ asked.at_second.1, ap (λ (r : Question). slice_get asked.at_second.0.accesses r.b) asked.is ∙ asked.at_second.2)
+  pub asked-second : IsAccessOf paths q.y q.b asked.second.access
+  asked-second = (asked.at_second.0, ap (λ (r : Question). slice_get paths r.y) asked.is ∙ asked.at_second.1, ap (λ (r : Question). slice_get asked.at_second.0.accesses r.b) asked.is ∙ asked.at_second.2)
 
   pub like-own : IsLike paths q q
   like-own = (
-    record { mine = asked.first.access; other = asked.first.access; at_mine = access-first; at_other = access-first; alike = alike-own asked.first.access; covers = covers-own (accesses_at paths q.x) },
-    record { mine = asked.second.access; other = asked.second.access; at_mine = access-second; at_other = access-second; alike = alike-own asked.second.access; covers = covers-own (accesses_at paths q.y) },
+    record { mine = asked.first.access; other = asked.first.access; at_mine = asked-first; at_other = asked-first; alike = alike-own asked.first.access; covers = covers-own (accesses_at paths q.x) },
+    record { mine = asked.second.access; other = asked.second.access; at_mine = asked-second; at_other = asked-second; alike = alike-own asked.second.access; covers = covers-own (accesses_at paths q.y) },
   )
 
 -- ---- verdicts
@@ -213,7 +213,7 @@ judged-like paths q r v like h mine theirs at_mine at_theirs =
 
 -- what is said of a question's accesses is right of it
 pub right-judged : (paths : List Path) (q : Question) → All ChangesSingleCells paths → IsAsked paths q → (v : Verdict) → IsJudgedAt paths q v → IsRight paths (numbers_of q) v
-unfolding access-first access-second
+unfolding asked-first asked-second
 right-judged paths q single asked v h =
     IsRight-asked paths q asked x y is_x is_y v
     (IsRight-from_lists x y q.a q.b x.accesses y.accesses asked.first.access asked.second.access (IsQuestion-asked paths q asked x y is_x is_y)
@@ -232,10 +232,10 @@ right-judged paths q single asked v h =
     is_y = sym (ap (λ (r : Question). get_or paths r.y y) asked.is ∙ get_or_from_slice_get paths asked.second.node y y asked.at_second.1)
 
     first : IsAccessOf paths q.x q.a asked.first.access
-    first = access-first paths q asked
+    first = asked-first paths q asked
 
     second : IsAccessOf paths q.y q.b asked.second.access
-    second = access-second paths q asked
+    second = asked-second paths q asked
 
     judged : IsJudged x.accesses y.accesses (get_or x.accesses q.a asked.first.access) (get_or y.accesses q.b asked.second.access) v
     judged =

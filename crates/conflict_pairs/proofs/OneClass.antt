@@ -5,7 +5,7 @@ use Rattle.std.specs.List.{AllZip}
 use Rattle.std.proofs.lemmas.List.{drop_more}
 use Rattle.std.proofs.lemmas.List.Elements.{All-weaker}
 use Rattle.std.proofs.lemmas.Option.{slice_get-get_or, slice_get_within, same_Some}
-use Rattle.prog_tree.proofs.Elements.{get_left}
+use Rattle.prog_tree.proofs.Elements.{get_left, at-right}
 use Rattle.prog_check.specs.declared.path.Access.{Access}
 use Rattle.prog_check.specs.declared.path.Path.{Path}
 use Rattle.prog_paths.specs.declared.accesses.places.Placed.{Placed}
@@ -66,13 +66,6 @@ placed-at node n (y ∷ xs) zero x at =
 placed-at node n (y ∷ xs) (suc a) x at =
     let e : n + 1 + a ≡ n + suc a = omega arith in
     placed-at node (n + 1) xs a x at ∙ ap (λ (k : ℕ). Some (placed node k x)) e
-
--- what stands behind a list stands so many places on
-pub at-right : {A : Type 0} (xs ys : List A) (k : ℕ) (p : A) → slice_get ys k ≡ Some p → slice_get (xs ++ ys) (length xs + k) ≡ Some p
-at-right [] ys k p at = let e : 0 + k ≡ k = omega arith in subst (λ (i : ℕ). slice_get ys i ≡ Some p) (sym e) at
-at-right (x ∷ xs) ys k p at =
-    let e : suc (length xs) + k ≡ suc (length xs + k) = omega arith in
-    subst (λ (i : ℕ). slice_get (x ∷ xs ++ ys) i ≡ Some p) (sym e) (at-right xs ys k p at)
 
 -- access `a` of the node `x` from here on stands where its node begins, with those before it
 place-from : (n : ℕ) (paths : List Path) (before : List Placed) (x a : ℕ) (access : Access) → IsAccessOf paths x a access → slice_get (before ++ all_from n paths) (get_or (starts_from (length before) paths) x 0 + a) ≡ Some (placed (n + x) a access)

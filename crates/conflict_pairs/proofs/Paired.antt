@@ -93,18 +93,18 @@ question-any places pair d e h =
     λ i. question_between (place-any places pair.first d h.first_within i) (place-any places pair.second e h.second_within i)
 
 module _ (starts : List ℕ) (places : List Placed) (few : length places ≤ 2 ^ 32) (p : Placed) (h : StandsAt starts places p) where
-  pub number-within : get_or starts p.node 0 + p.number < length places
-  number-within = slice_get_within places (get_or starts p.node 0 + p.number) p h.stands
+  pub stands-within : get_or starts p.node 0 + p.number < length places
+  stands-within = slice_get_within places (get_or starts p.node 0 + p.number) p h.stands
 
   pub number-fits : get_or starts p.node 0 + p.number < 2 ^ 64
-  number-fits = omega (arith, few, number-within)
+  number-fits = omega (arith, few, stands-within)
 
   module _ (n : ℕ) (is : n ≡ get_or starts p.node 0 + p.number) where
     pub number-small : n < 2 ^ 32
-    number-small = omega (arith, few, number-within, is)
+    number-small = omega (arith, few, stands-within, is)
 
     pub number-there : n < length places
-    number-there = omega (arith, number-within, is)
+    number-there = omega (arith, stands-within, is)
 
     pub number-is : place_at places n ≡ p
     number-is = get_or_from_slice_get places n p no_place (ap (slice_get places) is ∙ h.stands)

@@ -1,22 +1,21 @@
 -- On the questions of which pairs the verdicts of parts are.
-use Rattle.std.proofs.Common.{◌≡◌, ℕ, ◌+◌, ◌<◌, List, [], ◌∷◌, ◌++◌, length, map, take, drop, append_assoc, append-nil, length-append, sym, ap, ◌∙◌, subst, arith, zero, suc, max}
+use Rattle.std.proofs.Common.{◌≡◌, ℕ, ◌+◌, ◌<◌, List, [], ◌∷◌, ◌++◌, length, map, take, drop, append_assoc, length-append, sym, ap, ◌∙◌, subst, arith, zero, suc, max}
 use Rattle.std.specs.Prelude.{All}
 use Rattle.std.specs.List.{AllZip, flat_map}
 use Rattle.std.proofs.lemmas.List.Elements.{All-nil, All-cons, All-append, All-take, All-drop}
 use Rattle.rayon.proofs.ListFacts.{AllZip-append}
-use Rattle.prog_tree.proofs.Elements.{get_left}
+use Rattle.prog_tree.proofs.Elements.{get_left, at-right}
 use Rattle.prog_check.specs.declared.path.Path.{Path}
 use Rattle.prog_paths.specs.declared.accesses.places.Placed.{Placed}
 use Rattle.rayon.specs.Lists.{chunks_of, chunks_from}
 use Rattle.rayon.proofs.ToStd.{chunks_of-concat}
 use Rattle.conflict_pairs.specs.declared.verdicts.Verdict.{Verdict}
 use Rattle.conflict_pairs.specs.declared.pairing.PlacePair.{PlacePair}
-use Rattle.conflict_pairs.specs.declared.sharing.PairVerdicts.{PairVerdicts}
+use Rattle.conflict_pairs.specs.declared.interning.Interned.{Interned}
 use Rattle.conflict_pairs.specs.Alike.{IsOnAsked}
 use Rattle.conflict_pairs.specs.Interning.{IsServed}
 use Rattle.conflict_pairs.specs.Pairing.{IsAskedBetween}
 use Rattle.conflict_pairs.specs.Sharing.{IsOnPair, ArePairsJudged, verdicts_in, numbers_in}
-use Rattle.conflict_pairs.proofs.OneClass.{at-right}
 
 -- ---- the verdicts of chunks of pairs
 
@@ -31,22 +30,22 @@ shifted R front vs rest (k ∷ keys) (n ∷ ns) h = (
 )
 
 module _ (paths : List Path) (places : List Placed) where
-  abbrev pub AreParts : List (List PlacePair) → List PairVerdicts → Type 0
-  AreParts = AllZip (λ chunk (part : PairVerdicts). ArePairsJudged paths places chunk part.verdicts.items part.numbers.items)
+  abbrev pub AreParts : List (List PlacePair) → List (Interned Verdict) → Type 0
+  AreParts = AllZip (λ chunk (part : Interned Verdict). ArePairsJudged paths places chunk part.values.items part.numbers.items)
 
-  sound-in : (chunks : List (List PlacePair)) (parts : List PairVerdicts) → AreParts chunks parts → All (IsOnAsked paths) (verdicts_in parts)
+  sound-in : (chunks : List (List PlacePair)) (parts : List (Interned Verdict)) → AreParts chunks parts → All (IsOnAsked paths) (verdicts_in parts)
   sound-in [] [] h = All-nil (IsOnAsked paths)
   sound-in [] (p ∷ parts) h = absurd h
   sound-in (c ∷ chunks) [] h = absurd h
-  sound-in (c ∷ chunks) (p ∷ parts) h = All-append (IsOnAsked paths) p.verdicts.items (verdicts_in parts) h.0.sound (sound-in chunks parts h.1)
+  sound-in (c ∷ chunks) (p ∷ parts) h = All-append (IsOnAsked paths) p.values.items (verdicts_in parts) h.0.sound (sound-in chunks parts h.1)
 
-  served-in : (front : List Verdict) (chunks : List (List PlacePair)) (parts : List PairVerdicts) → AreParts chunks parts → AllZip (IsServed (IsOnPair paths places) (front ++ verdicts_in parts)) (flat_map (λ l. l) chunks) (numbers_in (length front) parts)
+  served-in : (front : List Verdict) (chunks : List (List PlacePair)) (parts : List (Interned Verdict)) → AreParts chunks parts → AllZip (IsServed (IsOnPair paths places) (front ++ verdicts_in parts)) (flat_map (λ l. l) chunks) (numbers_in (length front) parts)
   served-in front [] [] h = tt
   served-in front [] (p ∷ parts) h = absurd h
   served-in front (c ∷ chunks) [] h = absurd h
   served-in front (c ∷ chunks) (p ∷ parts) h =
       let serves = IsOnPair paths places in
-      let vs = p.verdicts.items in
+      let vs = p.values.items in
       let rest = verdicts_in parts in
       let pairs = flat_map (λ l. l) chunks in
       let behind = served-in (front ++ vs) chunks parts h.1 in
@@ -55,7 +54,7 @@ module _ (paths : List Path) (places : List Placed) where
       (shifted serves front vs rest c p.numbers.items h.0.served)
       (subst (λ (n : ℕ). AllZip (IsServed serves (front ++ (vs ++ rest))) pairs (numbers_in n parts)) (length-append front vs) moved)
 
-  pub of_whole : (pairs : List PlacePair) (size : ℕ) (parts : List PairVerdicts) → AreParts (chunks_of (max size 1) pairs) parts → ArePairsJudged paths places pairs (verdicts_in parts) (numbers_in 0 parts)
+  pub of_whole : (pairs : List PlacePair) (size : ℕ) (parts : List (Interned Verdict)) → AreParts (chunks_of (max size 1) pairs) parts → ArePairsJudged paths places pairs (verdicts_in parts) (numbers_in 0 parts)
   of_whole pairs size parts h =
       let some : 0 < max size 1 = omega arith in
       let chunks = chunks_of (max size 1) pairs in
@@ -74,24 +73,16 @@ module _ (paths : List Path) (places : List Placed) where
 
 -- ---- the verdicts of all parts, one part more at a time
 
-pub joined-more : (old new whole : List Verdict) (rest left : List PairVerdicts) (part : PairVerdicts) → left ≡ part ∷ rest → new ≡ old ++ part.verdicts.items → old ++ verdicts_in left ≡ whole → new ++ verdicts_in rest ≡ whole
+pub joined-more : (old new whole : List Verdict) (rest left : List (Interned Verdict)) (part : Interned Verdict) → left ≡ part ∷ rest → new ≡ old ++ part.values.items → old ++ verdicts_in left ≡ whole → new ++ verdicts_in rest ≡ whole
 joined-more old new whole rest left part first added h =
-    ap (λ (l : List Verdict). l ++ verdicts_in rest) added ∙ append_assoc old part.verdicts.items (verdicts_in rest)
-    ∙ ap (λ (l : List PairVerdicts). old ++ verdicts_in l) (sym first) ∙ h
-
-pub joined-end : (old whole : List Verdict) (left : List PairVerdicts) → length left ≡ 0 → old ++ verdicts_in left ≡ whole → old ≡ whole
-joined-end old whole [] none h = sym (append-nil old) ∙ h
-joined-end old whole (part ∷ left) none h = absurd (omega (arith, none))
+    ap (λ (l : List Verdict). l ++ verdicts_in rest) added ∙ append_assoc old part.values.items (verdicts_in rest)
+    ∙ ap (λ (l : List (Interned Verdict)). old ++ verdicts_in l) (sym first) ∙ h
 
 -- ---- and their numbers
 
-pub numbered-more : (old new whole : List ℕ) (before behind : ℕ) (rest left : List PairVerdicts) (part : PairVerdicts) → left ≡ part ∷ rest → new ≡ old ++ map (λ n. before + n) part.numbers.items → behind ≡ before + length part.verdicts.items → old ++ numbers_in before left ≡ whole → new ++ numbers_in behind rest ≡ whole
+pub numbered-more : (old new whole : List ℕ) (before behind : ℕ) (rest left : List (Interned Verdict)) (part : Interned Verdict) → left ≡ part ∷ rest → new ≡ old ++ map (λ n. before + n) part.numbers.items → behind ≡ before + length part.values.items → old ++ numbers_in before left ≡ whole → new ++ numbers_in behind rest ≡ whole
 numbered-more old new whole before behind rest left part first added is h =
     ap (λ (l : List ℕ). l ++ numbers_in behind rest) added
     ∙ append_assoc old (map (λ n. before + n) part.numbers.items) (numbers_in behind rest)
     ∙ ap (λ (n : ℕ). old ++ (map (λ m. before + m) part.numbers.items ++ numbers_in n rest)) is
-    ∙ ap (λ (l : List PairVerdicts). old ++ numbers_in before l) (sym first) ∙ h
-
-pub numbered-end : (old whole : List ℕ) (before : ℕ) (left : List PairVerdicts) → length left ≡ 0 → old ++ numbers_in before left ≡ whole → old ≡ whole
-numbered-end old whole before [] none h = sym (append-nil old) ∙ h
-numbered-end old whole before (part ∷ left) none h = absurd (omega (arith, none))
+    ∙ ap (λ (l : List (Interned Verdict)). old ++ numbers_in before l) (sym first) ∙ h

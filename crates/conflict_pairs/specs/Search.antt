@@ -1,11 +1,11 @@
 -- What the search for a verdict finds, over the facts alone.
-use Rattle.std.specs.Prelude.{◌≡◌, ◌<◌, ◌≤◌, ◌⊎◌, ℕ, List, length, All, Option, None, Some, slice_get}
+use Rattle.std.specs.Prelude.{◌≡◌, ◌≤◌, ℕ, List, length, All, Option, None, Some, slice_get}
 use Rattle.order_facts.specs.declared.steps.Node.{Node}
 use Rattle.order_facts.specs.declared.steps.Fact.{Fact}
 use Rattle.order_facts.specs.Chain.{IsConsistent, IsValuationOfI64, Meets}
 use Rattle.order_facts.specs.Sample.{sample_number, valuation_of, IsSampled}
 use Rattle.prog_check.specs.declared.path.Kind.{Kind}
-use Rattle.prog_paths.specs.StaticGraph.{AsksReadWrite}
+use Rattle.prog_paths.specs.StaticGraph.{IsUpToPair, AsksReadWrite}
 use Rattle.prog_check.specs.declared.path.Access.{Access}
 use Rattle.prog_paths.specs.Facts.{question_facts}
 use Rattle.conflict_pairs.specs.Verdicts.{IsFall, FallsShortest, IsShortest}
@@ -44,7 +44,7 @@ pub record CoversAt (facts : List Fact) (xs ys : List Access) (m t : ℕ) : Type
 -- they do, and no pair before them
 pub record CoversFirst (facts : List Fact) (xs ys : List Access) (m t : ℕ) : Type 0 where
   pub covers : CoversAt facts xs ys m t
-  pub least : (i j : ℕ) → CoversAt facts xs ys i j → (m < i) ⊎ ((m ≡ i) × (t ≤ j))
+  pub least : (i j : ℕ) → CoversAt facts xs ys i j → IsUpToPair m t i j
 
 -- such a pair is found for a question that asks for a read-write dependency and can meet
 pub record IsCoverFound (facts : List Fact) (mine theirs : Kind) (xs ys : List Access)

@@ -4,7 +4,7 @@ use Rattle.std.specs.List.{flat_map}
 use Rattle.prog_check.specs.declared.path.Path.{Path}
 use Rattle.prog_paths.specs.declared.accesses.places.Placed.{Placed}
 use Rattle.conflict_pairs.specs.declared.pairing.PlacePair.{PlacePair}
-use Rattle.conflict_pairs.specs.declared.sharing.PairVerdicts.{PairVerdicts}
+use Rattle.conflict_pairs.specs.declared.interning.Interned.{Interned}
 use Rattle.conflict_pairs.specs.declared.verdicts.Verdict.{Verdict}
 use Rattle.conflict_pairs.specs.Alike.{IsJudgedAt, IsOnAsked}
 use Rattle.conflict_pairs.specs.Interning.{AreInterned}
@@ -23,11 +23,11 @@ abbrev pub ArePairsJudged : List Path → List Placed → List PlacePair → Lis
 ArePairsJudged paths places = AreInterned (IsOnAsked paths) (IsOnPair paths places)
 
 -- the verdicts of parts, one part after the other
-abbrev pub verdicts_in : List PairVerdicts → List Verdict
-verdicts_in = flat_map (λ part. part.verdicts.items)
+abbrev pub verdicts_in : List (Interned Verdict) → List Verdict
+verdicts_in = flat_map (λ part. part.values.items)
 
 -- the numbers of the pairs of parts, where so many verdicts stand before the first part
-abbrev pub numbers_in : ℕ → List PairVerdicts → List ℕ
+abbrev pub numbers_in : ℕ → List (Interned Verdict) → List ℕ
 numbers_in before [] = []
 numbers_in before (part ∷ rest) =
-    map (λ n. before + n) part.numbers.items ++ numbers_in (before + length part.verdicts.items) rest
+    map (λ n. before + n) part.numbers.items ++ numbers_in (before + length part.values.items) rest

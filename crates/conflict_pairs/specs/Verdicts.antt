@@ -1,5 +1,5 @@
 -- When a verdict on a question is right.
-use Rattle.std.specs.Prelude.{◌≡◌, ◌↔◌, ℕ, ◌<◌, ◌≤◌, ◌⊎◌, ℤ, ◌<ℤ◌, Bool, true, false, List, length, All, Contains}
+use Rattle.std.specs.Prelude.{◌≡◌, ◌↔◌, ℕ, ◌<◌, ◌≤◌, ℤ, ◌<ℤ◌, Bool, true, false, List, length, All, Contains}
 use Rattle.prog_tree.specs.Number.{IsI64}
 use Rattle.order_facts.specs.declared.steps.Node.{Node}
 use Rattle.order_facts.specs.declared.steps.Node.TheVariants.{Mine, MineUnknown, Theirs, TheirsUnknown, Number}
@@ -11,7 +11,7 @@ use Rattle.prog_check.specs.declared.path.Access.{Access}
 use Rattle.prog_check.specs.declared.path.Path.{Path}
 use Rattle.prog_paths.specs.Meeting.{Assignment, MeetsUnder, CanMeet}
 use Rattle.prog_paths.specs.Facts.{question_facts}
-use Rattle.prog_paths.specs.StaticGraph.{QuestionNumbers, AsksOf, AsksReadWrite, IsCovered}
+use Rattle.prog_paths.specs.StaticGraph.{IsUpToPair, QuestionNumbers, AsksOf, AsksReadWrite, IsCovered}
 use Rattle.conflict_pairs.specs.declared.verdicts.Verdict.{Verdict}
 use Rattle.conflict_pairs.specs.declared.verdicts.Verdict.TheVariants.{Apart, Covered, Exposed}
 use Rattle.prog_paths.specs.Shown.{Falls, Runs, key_pairs, ShowEqual}
@@ -58,8 +58,7 @@ pub record IsLeastCover (nodes : List Path) (q : QuestionNumbers) (mine theirs :
   pub cover : IsCovered nodes q.x q.y mine theirs
   pub mine_is : cover.first ≡ m
   pub theirs_is : cover.second ≡ t
-  pub least : (other : IsCovered nodes q.x q.y mine theirs)
-      → (m < other.first) ⊎ ((m ≡ other.first) × (t ≤ other.second))
+  pub least : (other : IsCovered nodes q.x q.y mine theirs) → IsUpToPair m t other.first other.second
 
 -- the question asks for a read-write dependency and can meet, and these two accesses cover it, as the chains show
 pub record IsCoveredBy (nodes : List Path) (q : QuestionNumbers) (mine theirs : Access) (m t : ℕ)

@@ -1,5 +1,5 @@
 //! Classes of accesses: what is said of one is said of each other of its class.
-ghost use Rattle.std.specs.Prelude.{◌≡◌, ◌<◌, length, slice_index_or, IsTrue, All, IfOk};
+ghost use Rattle.std.specs.Prelude.{◌≡◌, ◌<◌, length, IsTrue, All, IfOk};
 ghost use Rattle.prog_paths.specs.Places.{all_from};
 ghost use Rattle.conflict_pairs.specs.Alike.{IsLike};
 ghost use Rattle.conflict_pairs.specs.Classes.{HasCoverClass, AreOneClass, AreNumbered};
@@ -7,7 +7,7 @@ ghost use Rattle.conflict_pairs.specs.Classes.{AreLikePlaces};
 ghost use Rattle.conflict_pairs.specs.Pairing.{IsAskedAt, asked_at};
 
 use crate::alike::{are_alike, cover_classes_of};
-use crate::interning::{Interner, intern_all};
+use crate::interning::{Interner, intern_all, mix, number_at};
 use crate::pairing::PlacePair;
 use prog_check::Path;
 use prog_paths::Placed;
@@ -54,9 +54,7 @@ impl<'a> Interner for Numbering<'a> {
     ghost serves = { λ numbering place first. AreOneClass numbering.classes.now place first };
 
     fn hash(&self, place: &Placed) -> usize {
-        self.classes[place.node]
-            .wrapping_mul(32)
-            .wrapping_add(place.number)
+        mix(self.classes[place.node], place.number)
     }
 
     fn is_served(&self, place: &Placed, first: &Placed) -> bool {
@@ -75,14 +73,6 @@ fn numbers_of(alloc: Global, classes: &[usize], places: &[Placed]) -> Result<Vec
     ensures { IfOk result (λ numbers. AreNumbered classes.now places.now numbers.items) }
 {
     Ok(intern_all(alloc, &Numbering { classes }, places)?.numbers)
-}
-
-/// The class of the access of a number.
-fn class_at(numbers: &[u32], n: usize) -> usize
-    requires { n < length numbers.now }
-    ensures { result ≡ slice_index_or numbers.now n 0 }
-{
-    numbers[n] as usize
 }
 
 impl<'a> AccessClasses<'a> {
@@ -106,7 +96,7 @@ impl<'a> AccessClasses<'a> {
         requires other { other < length (all_from 0 self.now) }
         ensures { IsTrue result → AreLikePlaces self.now one other }
     {
-        class_at(&self.numbers, one as usize) == class_at(&self.numbers, other as usize)
+        number_at(&self.numbers, one) == number_at(&self.numbers, other)
     }
 }
 
@@ -123,9 +113,9 @@ impl<'a> Interner for AccessClasses<'a> {
         IsLike paths (asked_at paths pair) (asked_at paths judged) };
 
     fn hash(&self, pair: &PlacePair) -> usize {
-        let first = class_at(&self.numbers, pair.first as usize);
-        let second = class_at(&self.numbers, pair.second as usize);
-        first.wrapping_mul(65_536).wrapping_add(second)
+        let first = number_at(&self.numbers, pair.first);
+        let second = number_at(&self.numbers, pair.second);
+        mix(first as usize, second as usize)
     }
 
     fn is_served(&self, pair: &PlacePair, judged: &PlacePair) -> bool {

@@ -12,7 +12,7 @@ ghost use Rattle.conflict_pairs.specs.Verdicts.{IsShortest};
 ghost use Rattle.conflict_pairs.specs.Search.{CoversAt, CoversFirst};
 
 use crate::chain::Chain;
-use order_facts::{Closed, Node};
+use order_facts::{Closed, Node, is_same_node};
 use prog_check::{Access, Column, Term};
 use prog_paths::{may_cover, mine_node, second_terms, their_node};
 use prog_tree::Sequence;
@@ -74,12 +74,6 @@ pub fn least_cover(closed: &Closed, mine: &[Access], theirs: &[Access]) -> Optio
         }
     }
     None
-}
-
-fn is_same_node(one: Node, other: Node) -> bool
-    ensures { IsTrue result ↔ (one ≡ other) }
-{
-    one == other
 }
 
 /// Whether the facts put a node at most another one in one step.

@@ -1,6 +1,6 @@
 //! One value for all keys that are alike, as far as the slots remember it.
 ghost use Rattle.std.specs.Prelude.{◌≡◌, ◌<◌, ◌++◌, ℕ, [], ◌∷◌, Some, length, slice_get};
-ghost use Rattle.std.specs.Prelude.{IsTrue, All, IfOk, OnOk};
+ghost use Rattle.std.specs.Prelude.{IsTrue, All, IfOk, OnOk, slice_index_or};
 ghost use Rattle.conflict_pairs.specs.Interning.{IsServed, AreInterned};
 
 use crate::limits::MAX_VALUES;
@@ -55,6 +55,22 @@ fn slot_of(hash: usize) -> usize
     ensures { result < SLOTS }
 {
     (hash.wrapping_mul(SPREAD) >> 32) % SLOTS
+}
+
+// A prime, so that few pairs of numbers are mixed to the same one.
+const FACTOR: usize = 65_537;
+
+/// A hash of what was seen and one number more.
+pub fn mix(seen: usize, number: usize) -> usize {
+    seen.wrapping_mul(FACTOR).wrapping_add(number)
+}
+
+/// The number for the key of this place.
+pub fn number_at(numbers: &[u32], n: u32) -> u32
+    requires { n < length numbers.now }
+    ensures { result ≡ slice_index_or numbers.now n 0 }
+{
+    numbers[n as usize]
 }
 
 /// Numbers that are remembered, each in the slot of a hash. Nothing is promised of which: who takes
@@ -113,7 +129,9 @@ fn is_remembered<I: Interner>(interner: &I, key: &I::Key, values: &[I::Value], n
     requires sound { All (I.is_sound interner.now) values.now }
     ensures { IsTrue result → IsServed (I.serves interner.now) values.now key.now number }
 {
-    (number as usize) < values.len() && interner.is_served(key, &values[number as usize])
+    values
+        .get(number as usize)
+        .is_some_and(|value| interner.is_served(key, value))
 }
 
 /// The number of a value that serves a key. Keys in a row are often alike, so the number of the

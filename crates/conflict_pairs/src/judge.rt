@@ -15,9 +15,9 @@ ghost use Rattle.conflict_pairs.specs.Search.{IsLeftOpen, IsUncovered, IsJudged}
 use crate::apart::{contradiction, number_fall};
 use crate::chain::Chain;
 use crate::cover::{cover_chains, least_cover};
-use crate::interning::Slots;
+use crate::interning::{Interned, Slots};
 use crate::pairing::{PlacePair, question_of};
-use crate::sharing::{PairVerdicts, number_of_verdict};
+use crate::sharing::number_of_verdict;
 use crate::verdicts::Verdict;
 use order_facts::Closed;
 use prog_check::{Access, Kind, Path};
@@ -226,18 +226,18 @@ pub fn verdicts_of(
     paths: &[Path],
     places: &[Placed],
     pairs: &[PlacePair],
-) -> Result<PairVerdicts, AllocError>
+) -> Result<Interned<Verdict>, AllocError>
     requires { All (IsAskedBetween paths.now places.now) pairs.now }
     ensures { IfOk result (λ judged. ArePairsJudged paths.now places.now pairs.now
-        judged.verdicts.items judged.numbers.items) }
+        judged.values.items judged.numbers.items) }
 {
     let mut slots = Slots::new(alloc)?;
-    let mut verdicts = Vec::new(alloc);
+    let mut values = Vec::new(alloc);
     let mut numbers = Vec::with_capacity(alloc, pairs.len())?;
     for pair in pairs {
         let verdict = pair_verdict(alloc, paths, places, *pair)?;
-        let number = number_of_verdict(verdict, &mut slots, &mut verdicts)?;
+        let number = number_of_verdict(verdict, &mut slots, &mut values)?;
         numbers.push_reserved(number);
     }
-    Ok(PairVerdicts { verdicts, numbers })
+    Ok(Interned { values, numbers })
 }

@@ -14,12 +14,12 @@ ghost use Rattle.conflict_pairs.specs.Table.{StandsFor};
 
 use crate::classes::AccessClasses;
 use crate::fault::PairFault;
-use crate::interning::{Interned, intern_all};
+use crate::interning::{Interned, intern_all, number_at};
 use crate::judge::verdicts_of;
 use crate::limits::MAX_PLACES;
 use crate::pairing::{PlacePair, number_among};
-use crate::sharing::PairVerdicts;
 use crate::table::PairTable;
+use crate::verdicts::Verdict;
 use prog_check::Path;
 use prog_paths::{Changers, MAX_QUESTIONS, Placed, all_places, asks, question_count};
 use std::alloc::{AllocError, Global};
@@ -126,13 +126,6 @@ pub fn numbered_questions(alloc: Global, paths: &[Path]) -> Result<Questions, Pa
     })
 }
 
-fn number_at(numbers: &[u32], n: u32) -> u32
-    requires { n < length numbers.now }
-    ensures { result ≡ slice_index_or numbers.now n 0 }
-{
-    numbers[n as usize]
-}
-
 /// From the numbers of judged questions to those of their verdicts, where they stand.
 fn take_through(numbers: &mut Vec<u32>, of_judged: &[u32])
     requires { All (λ n. n < length of_judged.now) numbers.old.items }
@@ -144,11 +137,11 @@ fn take_through(numbers: &mut Vec<u32>, of_judged: &[u32])
 }
 
 /// The table of questions, by the verdicts on those that are judged.
-pub fn table_of(paths: &[Path], questions: Questions, judged: PairVerdicts) -> PairTable
+pub fn table_of(paths: &[Path], questions: Questions, judged: Interned<Verdict>) -> PairTable
     requires single { All ChangesSingleCells paths.now }
     requires listed { AreQuestionsOf paths.now questions }
     requires judged { ArePairsJudged paths.now questions.places.items questions.judged.items
-        judged.verdicts.items judged.numbers.items }
+        judged.values.items judged.numbers.items }
     ensures { StandsFor result paths.now }
 {
     let mut numbers = questions.numbers;
@@ -158,7 +151,7 @@ pub fn table_of(paths: &[Path], questions: Questions, judged: PairVerdicts) -> P
         questions.places,
         questions.pairs,
         numbers,
-        judged.verdicts,
+        judged.values,
     )
 }
 

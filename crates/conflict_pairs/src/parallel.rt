@@ -8,12 +8,13 @@ ghost use Rattle.conflict_pairs.specs.Sharing.{ArePairsJudged, verdicts_in, numb
 ghost use Rattle.conflict_pairs.specs.Table.{StandsFor};
 
 use crate::fault::PairFault;
+use crate::interning::Interned;
 use crate::judge::verdicts_of;
 use crate::limits::{EQUAL_PARTS, MAX_VALUES, MIN_QUESTIONS_OF_THREADS};
 use crate::listing::{numbered_questions, table_of};
 use crate::pairing::PlacePair;
-use crate::sharing::PairVerdicts;
 use crate::table::PairTable;
+use crate::verdicts::Verdict;
 use prog_check::Path;
 use prog_paths::Placed;
 use rayon::prelude::*;
@@ -39,7 +40,7 @@ fn parts_of(
     paths: &[Path],
     places: &[Placed],
     pairs: &[PlacePair],
-) -> Result<Vec<PairVerdicts>, AllocError>
+) -> Result<Vec<Interned<Verdict>>, AllocError>
     requires { All (IsAskedBetween paths.now places.now) pairs.now }
     ensures { IfOk result (λ parts. ArePairsJudged paths.now places.now pairs.now
         (verdicts_in parts.items) (numbers_in 0 parts.items)) }
@@ -47,13 +48,13 @@ fn parts_of(
     pairs
         .par_chunks(part_len(pairs.len()))
         .map(
-            |chunk: &[PlacePair]| -> Result<PairVerdicts, AllocError>
+            |chunk: &[PlacePair]| -> Result<Interned<Verdict>, AllocError>
                 requires { All (IsAskedBetween paths.now places.now) chunk.now }
                 ensures { IfOk result (λ part. ArePairsJudged paths.entry.now places.entry.now
-                    chunk.now part.verdicts.items part.numbers.items) }
+                    chunk.now part.values.items part.numbers.items) }
             { verdicts_of(alloc, paths, places, chunk) },
         )
-        .collect::<Result<Vec<PairVerdicts>, AllocError>>(rt, alloc)?
+        .collect::<Result<Vec<Interned<Verdict>>, AllocError>>(rt, alloc)?
 }
 
 /// The number that a verdict of a part has among those of all, of which so many stand before the
@@ -87,18 +88,18 @@ fn push_numbers(numbers: &mut Vec<u32>, before: usize, of_part: &[u32]) -> Resul
 fn all_verdicts(
     alloc: Global,
     count: usize,
-    parts: Vec<PairVerdicts>,
-) -> Result<PairVerdicts, AllocError>
-    ensures verdicts { IfOk result (λ all. all.verdicts.items ≡ verdicts_in parts.items) }
+    parts: Vec<Interned<Verdict>>,
+) -> Result<Interned<Verdict>, AllocError>
+    ensures verdicts { IfOk result (λ all. all.values.items ≡ verdicts_in parts.items) }
     ensures numbers { IfOk result (λ all. all.numbers.items ≡ numbers_in 0 parts.items) }
 {
-    let mut verdicts = Vec::new(alloc);
+    let mut values = Vec::new(alloc);
     let mut numbers = Vec::with_capacity(alloc, count)?;
     for mut part in parts {
-        push_numbers(&mut numbers, verdicts.len(), &part.numbers)?;
-        verdicts.append(&mut part.verdicts)?;
+        push_numbers(&mut numbers, values.len(), &part.numbers)?;
+        values.append(&mut part.values)?;
     }
-    Ok(PairVerdicts { verdicts, numbers })
+    Ok(Interned { values, numbers })
 }
 
 /// All questions of the paths in order, with their verdicts, as `pairs` gives them, by several

@@ -44,19 +44,13 @@ fn is_same(one: &Verdict, other: &Verdict) -> bool
     }
 }
 
-/// Verdicts of which none is kept twice, as far as slots remember them, and for each pair of
-/// accesses the number of its own.
-#[derive(Drop)]
-pub struct PairVerdicts {
-    pub verdicts: Vec<Verdict>,
-    pub numbers: Vec<u32>,
-}
-
 /// Whether the verdict of a number is the same.
 fn is_remembered(verdict: &Verdict, verdicts: &[Verdict], number: u32) -> bool
     ensures { IsTrue result → IsServed IsSame verdicts.now verdict.now number }
 {
-    (number as usize) < verdicts.len() && is_same(verdict, &verdicts[number as usize])
+    verdicts
+        .get(number as usize)
+        .is_some_and(|other| is_same(verdict, other))
 }
 
 /// The number of a verdict among others: that of the same one, where a slot remembers it, or its

@@ -3,13 +3,9 @@ ghost use Rattle.std.specs.Prelude.{◌≡◌};
 ghost use Rattle.conflict_pairs.specs.Verdicts.{can_meet, is_exposed};
 
 use crate::chain::Chain;
+use crate::interning::mix;
 use order_facts::{Node, Sample};
 use prog_tree::Sequence;
-
-/// A number for what was seen and one thing more.
-fn mix(seen: usize, number: usize) -> usize {
-    seen.wrapping_mul(2_531).wrapping_add(number)
-}
 
 fn node_hash(node: Node) -> usize {
     match node {

@@ -1,7 +1,7 @@
 -- The least dangerous structure of a list of paths.
-use Rattle.std.specs.Prelude.{◌≡◌, ℕ, ◌<◌, ◌≤◌, ◌⊎◌, List, [], ◌∷◌, Some, slice_get}
+use Rattle.std.specs.Prelude.{◌≡◌, ℕ, List, [], ◌∷◌, Some, slice_get}
 use Rattle.prog_check.specs.declared.path.Path.{Path}
-use Rattle.prog_paths.specs.StaticGraph.{IsExposed, StaticEdge, IsVulnerable, IsDangerousAt, HasReadWrite, IsAtMost}
+use Rattle.prog_paths.specs.StaticGraph.{IsUpToPair, IsExposed, StaticEdge, IsVulnerable, IsDangerousAt, HasReadWrite, IsAtMost}
 use Rattle.conflict_pairs.specs.declared.verdicts.Verdict.TheVariants.{Exposed}
 use Rattle.conflict_pairs.specs.Verdicts.{IsExposedBy}
 use Rattle.conflict_pairs.specs.Table.{Judged, Table}
@@ -29,7 +29,7 @@ pub record IsLeastExposed (paths : List Path) (x y : ℕ) (e : Exposure) : Type 
   pub their_kind : e.question.theirs ≡ exposed.theirs.kind
   pub sample : IsExposedBy paths exposed.question exposed.mine exposed.theirs e.sample
   pub least : (h : HasReadWrite (IsExposed paths) paths x y)
-      → (e.question.a < h.question.a) ⊎ ((e.question.a ≡ h.question.a) × (e.question.b ≤ h.question.b))
+      → IsUpToPair e.question.a e.question.b h.question.a h.question.b
 
 -- two vulnerable edges in a row and a way back, and none before them: each edge with its least exposed question, and
 -- the least way back

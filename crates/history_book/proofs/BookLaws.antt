@@ -27,7 +27,7 @@ use Rattle.history_book.specs.declared.instances.row.Ending.{Ending}
 use Rattle.history_book.specs.declared.instances.row.Ending.TheVariants as ending
 use Rattle.history_book.specs.declared.instances.row.HistoryRow.{HistoryRow}
 use Rattle.history_book.proofs.ActiveLaws.{Entry, All-removed, length-removed, fewer-removed, All-found, with_start-is, least-from, least-below, least-within}
-use Rattle.history_book.proofs.EndingLaws.{true_rows-push, true_row-in_longer, true_endings-push, committed-append, range-push}
+use Rattle.history_book.proofs.EndingLaws.{true_rows-push, true_row-push, true_endings-push, committed-append, range-push}
 use Rattle.history_book.proofs.HistoryLaws.{length-commits_of, commits_of-push, lawful-nil, lawful-push}
 
 pub true-open : (set : Draft) (opening : TableState) →
@@ -141,7 +141,7 @@ true-committed v number row w rows endings active floor book found commit one_ro
     let apart : IsClash (commits_in v) i.start (done_in v i).changes None = subst (λ x. IsClash (commits_in v) i.start x None) commit.changes commit.apart in
     let rows_in_long : All (IsTrueRow set v.opening long) rows =
     subst (All (IsTrueRow set v.opening long)) (sym one_row)
-    (All-push (IsTrueRow set v.opening long) v.rows row (true_rows-push set v.opening h i v.rows book.rows) (true_row-in_longer set v.opening h i row commit.is_true)) in
+    (All-push (IsTrueRow set v.opening long) v.rows row (true_rows-push set v.opening h i v.rows book.rows) (true_row-push set v.opening h i row commit.is_true)) in
     let endings_in_long : All (IsTrueEnding set v.opening long) endings =
     subst (All (IsTrueEnding set v.opening long)) (sym more)
     (All-push (IsTrueEnding set v.opening long) v.endings (ending.Committed (length v.rows + 1)) (true_endings-push set v.opening h i v.endings book.endings) tt) in

@@ -29,7 +29,7 @@ module _ (set : DraftTree) (opening : TableState) (h : List Instance) (i : Insta
   in_longer : (row : HistoryRow) → row.start ≤ length h → row.start ≤ length longer
   in_longer row start = omega (arith, length-append h (i ∷ []))
 
-  true_row-push : (row : HistoryRow) → IsTrueRow set opening h row → IsTrueRow set opening longer row
+  pub true_row-push : (row : HistoryRow) → IsTrueRow set opening h row → IsTrueRow set opening longer row
   true_row-push row is = record {
     called = is.called;
     start = in_longer row is.start;
@@ -66,9 +66,6 @@ module _ (set : DraftTree) (opening : TableState) (h : List Instance) (i : Insta
 
   pub true_rows-push : (rows : List HistoryRow) → All (IsTrueRow set opening h) rows → All (IsTrueRow set opening longer) rows
   true_rows-push = All-weaker (IsTrueRow set opening h) (IsTrueRow set opening longer) true_row-push
-
-  pub true_row-in_longer : (row : HistoryRow) → IsTrueRow set opening h row → IsTrueRow set opening longer row
-  true_row-in_longer = true_row-push
 
   pub true_endings-push : (es : List Ending) → All (IsTrueEnding set opening h) es → All (IsTrueEnding set opening longer) es
   true_endings-push = All-weaker (IsTrueEnding set opening h) (IsTrueEnding set opening longer) true_ending-push

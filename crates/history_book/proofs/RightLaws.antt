@@ -19,7 +19,7 @@ use Rattle.history_book.specs.declared.audit.RowFault.{RowFault}
 use Rattle.history_book.specs.declared.audit.RowFault.TheVariants as row
 use Rattle.history_book.specs.declared.instances.row.HistoryRow.{HistoryRow}
 use Rattle.history_book.proofs.ClashLaws.{last_touches}
-use Rattle.history_book.proofs.EndingLaws.{true_rows-push, true_row-in_longer}
+use Rattle.history_book.proofs.EndingLaws.{true_rows-push, true_row-push}
 use Rattle.history_book.proofs.HistoryLaws.{lawful-nil, lawful-push, length-commits_of}
 use Rattle.history_book.proofs.StateLaws.{nth_instance-behind, state_at-commits_after, commits_of-is}
 use Rattle.history_book.proofs.BookLaws.{history-push}
@@ -41,7 +41,7 @@ module _ (set : DraftTree) (opening : TableState) where
         rows_true =
             subst (λ g. All (IsTrueRow set opening g) (past ++ r ∷ [])) (sym along)
             (All-push (IsTrueRow set opening (h ++ instance_of r ∷ [])) past r (true_rows-push set opening h (instance_of r) past good.rows_true)
-            (true_row-in_longer set opening h (instance_of r) r right.is_true));
+            (true_row-push set opening h (instance_of r) r right.is_true));
       }
 
   good_all : (past rows : List HistoryRow) → IsGood past → AreRightBehind set opening (history_of past) rows → IsGood (past ++ rows)

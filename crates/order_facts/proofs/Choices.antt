@@ -4,8 +4,9 @@ use lib.Signed.{≤ℤ_refl}
 use Rattle.std.specs.Prelude.{All, Any, unsigned_abs}
 use Rattle.std.proofs.lemmas.Bool.{cases_Bool, eq-eqb, false≢true}
 use Rattle.std.proofs.lemmas.Int.{ints, by_lt_z}
-use Rattle.std.proofs.lemmas.List.{get_or_append_left, get_or_push}
+use Rattle.std.proofs.lemmas.List.{get_or_append_left}
 use Rattle.std.proofs.lemmas.List.Elements.{All-head, All-tail}
+use Rattle.std.proofs.lemmas.List.Quantifiers.{Any-push}
 use Rattle.prog_tree.proofs.Elements.{IsMember}
 use Rattle.order_facts.specs.declared.steps.Node.{Node}
 use Rattle.order_facts.specs.declared.steps.Node.TheVariants.{Mine, MineUnknown, Theirs, TheirsUnknown, Number}
@@ -22,25 +23,22 @@ use Rattle.order_facts.proofs.Places.{place_of}
 
 -- ---- one more choice
 
-Any-push : {A : Type 0} (P : A → Type 0) (xs : List A) (x : A) → Any P xs → Any P (xs ++ x ∷ [])
-Any-push P xs x a = (a.0, a.1, omega (arith, a.2, length-append xs (x ∷ [])), get_or_append_left xs (x ∷ []) a.1 a.0 a.2 ∙ a.3, a.4)
+Any-kept : {A : Type 0} (P : A → Type 0) (xs : List A) (x : A) → Any P xs → Any P (xs ++ x ∷ [])
+Any-kept P xs x a = (a.0, a.1, omega (arith, a.2, length-append xs (x ∷ [])), get_or_append_left xs (x ∷ []) a.1 a.0 a.2 ∙ a.3, a.4)
 
 pub HasChoice-push : (choices : List Choice) (c : Choice) (node : Node) → HasChoice choices node → HasChoice (choices ++ c ∷ []) node
 HasChoice-push choices c (Number k) h = tt
-HasChoice-push choices c (Mine i) h = Any-push _ choices c h
-HasChoice-push choices c (MineUnknown i) h = Any-push _ choices c h
-HasChoice-push choices c (Theirs i) h = Any-push _ choices c h
-HasChoice-push choices c (TheirsUnknown i) h = Any-push _ choices c h
-
-Any-last : {A : Type 0} (P : A → Type 0) (xs : List A) (x : A) → P x → Any P (xs ++ x ∷ [])
-Any-last P xs x p = (length xs, x, omega (arith, length-append xs (x ∷ [])), get_or_push xs x x (length xs) refl, p)
+HasChoice-push choices c (Mine i) h = Any-kept _ choices c h
+HasChoice-push choices c (MineUnknown i) h = Any-kept _ choices c h
+HasChoice-push choices c (Theirs i) h = Any-kept _ choices c h
+HasChoice-push choices c (TheirsUnknown i) h = Any-kept _ choices c h
 
 pub HasChoice-last : (choices : List Choice) (node : Node) (number : ℤ) → HasChoice (choices ++ record { node = node; number = number } ∷ []) node
 HasChoice-last choices (Number k) number = tt
-HasChoice-last choices (Mine i) number = Any-last _ choices _ refl
-HasChoice-last choices (MineUnknown i) number = Any-last _ choices _ refl
-HasChoice-last choices (Theirs i) number = Any-last _ choices _ refl
-HasChoice-last choices (TheirsUnknown i) number = Any-last _ choices _ refl
+HasChoice-last choices (Mine i) number = Any-push _ choices _ refl
+HasChoice-last choices (MineUnknown i) number = Any-push _ choices _ refl
+HasChoice-last choices (Theirs i) number = Any-push _ choices _ refl
+HasChoice-last choices (TheirsUnknown i) number = Any-push _ choices _ refl
 
 -- ---- a number, and a node in no fact
 

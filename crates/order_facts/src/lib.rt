@@ -23,4 +23,4 @@ pub use given::{Facts, check_chain};
 pub use nodes::Nodes;
 pub use sample::Sample;
 pub use square::Square;
-pub use steps::{Fact, Node, is_chain, is_plain_step};
+pub use steps::{Fact, Node, is_chain, is_plain_step, is_same_node};

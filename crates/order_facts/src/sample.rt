@@ -10,7 +10,7 @@ ghost use Rattle.order_facts.specs.Matrix.{IsMatrixOf};
 ghost use Rattle.order_facts.specs.Sample.{sample_number, valuation_of, IsSampled, HasChoice};
 
 use crate::square::Square;
-use crate::steps::{Fact, Node, highest, is_same, lowest};
+use crate::steps::{Fact, Node, highest, is_same_node, lowest};
 use crate::ways::{leads_from, leads_to};
 use std::alloc::{AllocError, Global};
 use std::marker::Model;
@@ -82,7 +82,7 @@ fn nearest_number(facts: &[Fact], matrix: &Square, node: Node) -> i64
 fn has_choice(choices: &[Choice], node: Node) -> bool
     ensures { IsTrue result ↔ HasChoice choices.now node }
 {
-    matches!(node, Node::Number(_)) || choices.iter().any(|choice| choice.node == node)
+    matches!(node, Node::Number(_)) || choices.iter().any(|choice| is_same_node(choice.node, node))
 }
 
 /// Adds the node's choice where it needs one.
@@ -142,7 +142,7 @@ impl Sample {
             return number;
         }
         for choice in &self.choices {
-            if is_same(choice.node, node) {
+            if is_same_node(choice.node, node) {
                 return choice.number;
             }
         }

@@ -9,7 +9,7 @@ ghost use Rattle.order_facts.specs.Reaches.{reaches};
 ghost use Rattle.order_facts.specs.Search.{reached_at, HasReached, IsDescending, IsTrail, Adds};
 ghost use Rattle.order_facts.specs.Search.{Spreads};
 
-use crate::steps::{Fact, Node, is_same, is_step};
+use crate::steps::{Fact, Node, is_same_node, is_step};
 use std::alloc::{AllocError, Global};
 
 /// A node from which the chain's end is reached in so many steps, the first to what was reached at
@@ -36,7 +36,7 @@ fn step_from(facts: &[Fact], reached: &[Reached], node: Node) -> Option<usize>
 fn has_reached(reached: &[Reached], node: Node) -> bool
     ensures { IsTrue result ↔ HasReached reached.now node }
 {
-    reached.iter().any(|r| is_same(r.node, node))
+    reached.iter().any(|r| is_same_node(r.node, node))
 }
 
 /// Adds the node where it is new and a step from one of the first `known`.
@@ -105,7 +105,7 @@ pub fn shortest_chain(
     ensures fewest { IfOk result (λ chain. (other : List Node) → IsChain facts.now other
         → RunsBetween x y other → length chain.items ≤ length other) }
 {
-    if is_same(x, y) {
+    if is_same_node(x, y) {
         return Vec::from_slice(alloc, &[x]);
     }
     let mut reached = Vec::new(alloc);

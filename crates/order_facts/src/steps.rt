@@ -63,7 +63,7 @@ pub fn is_plain_step(a: Node, b: Node) -> bool
 }
 
 /// Whether two nodes are one.
-pub fn is_same(a: Node, b: Node) -> bool
+pub fn is_same_node(a: Node, b: Node) -> bool
     ensures { IsTrue result ↔ (a ≡ b) }
 {
     a == b
@@ -73,7 +73,7 @@ pub fn is_same(a: Node, b: Node) -> bool
 pub fn is_below(a: Node, b: Node) -> bool
     ensures { result ≡ is_below a b }
 {
-    is_same(a, b) || is_plain_step(a, b)
+    is_same_node(a, b) || is_plain_step(a, b)
 }
 
 /// Whether the pair is a given fact.

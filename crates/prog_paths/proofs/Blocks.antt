@@ -20,7 +20,9 @@ use Rattle.prog_paths.specs.Choices.{choices_behind, choices_by, choices_taken}
 use Rattle.prog_tree.proofs.Elements.{IsMember, member_left, member_right, member_map}
 use Rattle.prog_paths.proofs.Segments.{Segment, segment_none, segment_join}
 use Rattle.prog_paths.proofs.Numbers.{AllI64, BlockFits}
-use Rattle.prog_paths.proofs.Ranges.{EnvOfI64, all_append, Ranged, TurnsOfI64, listed_i64}
+use Rattle.prog_paths.proofs.SingleCells.{all-append}
+use Rattle.prog_tree.specs.Number.{IsI64}
+use Rattle.prog_paths.proofs.Ranges.{EnvOfI64, Ranged, TurnsOfI64, listed_i64}
 use Rattle.prog_paths.proofs.Walking.{unknown_append, accesses_append}
 use Rattle.prog_paths.proofs.Parts.{then_goes, value_goes, seen_in, listed, Did, StatementFollows, ListingFollows, goes_same}
 use Rattle.prog_paths.proofs.Rounds.{Turned, close_env, rounds, by_turns, passed_counts, zeros, zeros_i64, zeros_length}
@@ -77,7 +79,7 @@ module _ (tables : List TableDecl) (m : TableState) (params : List Name) (parame
         of_i64 = λ h r.
             let x = d.of_i64 h.0 r in
             let y = t.of_i64 h.1 x.1 in
-            (all_append d.values t.values x.0 y.0, y.1);
+            (all-append IsI64 d.values t.values x.0 y.0, y.1);
       }
 
   -- ---- a branch and then the rest
@@ -127,7 +129,7 @@ module _ (tables : List TableDecl) (m : TableState) (params : List Name) (parame
         of_i64 = λ h before.
             let x = t.of_i64 (one_fits holds h.0 h.1) before in
             let y = l.of_i64 h.2 (closed_ranged h before) in
-            (all_append t.values l.values x.0 y.0, y.1);
+            (all-append IsI64 t.values l.values x.0 y.0, y.1);
       }
     where
       one_fits : (w : Bool) → BlockFits a → BlockFits b → BlockFits (if w then a else b)
@@ -183,7 +185,7 @@ module _ (tables : List TableDecl) (m : TableState) (params : List Name) (parame
         of_i64 = λ ok before.
             let x = d.of_i64 tt before in
             let y = t.of_i64 ok.1 (w.of_i64 ok.0 (ranged before) x.1) in
-            (all_append d.values (zeros k.0 ++ t.values) x.0 (all_append (zeros k.0) t.values (zeros_i64 k.0) y.0), y.1);
+            (all-append IsI64 d.values (zeros k.0 ++ t.values) x.0 (all-append IsI64 (zeros k.0) t.values (zeros_i64 k.0) y.0), y.1);
       }
 
   -- the listing and its turns alone

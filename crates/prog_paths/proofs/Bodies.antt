@@ -1,5 +1,6 @@
 -- Trails past the body of an `each`, statement by statement.
 use Rattle.std.proofs.Common.{◌≡◌, ℕ, ◌+◌, List, [], ◌∷◌, ◌++◌, map, refl, ap, sym, subst, ◌∙◌, arith, true, false, Bool, not}
+use Rattle.std.proofs.lemmas.Bool.{false≢true}
 use Rattle.std.proofs.lemmas.List.{append-nil, append_assoc}
 use Rattle.std.specs.Prelude.{if◌then◌else◌}
 use Rattle.prog_tree.specs.declared.table.TableDecl.{TableDecl}
@@ -92,14 +93,11 @@ module _ (tables : List TableDecl) (params : List Name) where
   pub whole_plain : (n : ℕ) (x : StmtTree) (st : StatementTree) (t : Trail) → x ≡ Plain st → passes x ≡ true → past tables params true n x t ∷ [] ≡ map (along tables params t) (routes n (alone x))
   whole_plain n x st t is on = subst (λ y. past tables params true n y t ∷ [] ≡ map (along tables params t) (routes n (alone y))) (sym is) (go (is_abort st) refl)
     where
-      differ : false ≡ true → ⊥
-      differ e = cc
-
       open_end : along tables params t (passing n st no_steps) ≡ past tables params true n (Plain st) t
       open_end = λ i. trail_of (append-nil t.choices i) (t.accesses ++ append-nil (accesses_of tables params t.unknown true n st) i) (next_unknown t.unknown (columns_of params t.unknown st))
 
       go : (w : Bool) → is_abort st ≡ w → past tables params true n (Plain st) t ∷ [] ≡ map (along tables params t) (routes n (Then st BlockEnd))
-      go true e = absurd (differ (sym (ap not e) ∙ sym (ap passes is) ∙ on))
+      go true e = absurd (false≢true (sym (ap not e) ∙ sym (ap passes is) ∙ on))
       go false e = (λ i. sym open_end i ∷ []) ∙ (λ i. map (along tables params t) (if sym e i then [] else map (passing n st) (no_steps ∷ [])))
 
   pub whole_loop : (n : ℕ) (x : StmtTree) (l : ListingTree) (body : BlockTree) (t : Trail) → x ≡ Loop l body → past_body tables params (n + 1) body (past tables params true n x t) ∷ [] ≡ map (along tables params t) (routes n (alone x))

@@ -12,13 +12,14 @@ use Rattle.prog_check.specs.declared.path.Path.{Path}
 use Rattle.prog_check.specs.Paths.{program_paths, paths_from, paths_of}
 use Rattle.prog_check.specs.Sound.{IsSoundProgram, IsSound}
 use Rattle.prog_paths.specs.Few.{IsAccessBelow, AreFew}
+use Rattle.prog_paths.specs.Limits.{most_terms}
 use Rattle.prog_paths.proofs.Numbered.{program_below}
 
 abbrev FewAccesses : Path → Type 0
 FewAccesses path = length path.accesses ≤ 24
 
 abbrev LowTerms : Path → Type 0
-LowTerms path = All (IsAccessBelow 768) path.accesses
+LowTerms path = All (IsAccessBelow most_terms) path.accesses
 
 -- the programs of a list, numbered from here on, are sound
 abbrev AreSound : List TableDecl → ℕ → List ProgramTree → Type 0

@@ -12,6 +12,7 @@ use Rattle.prog_check.specs.Accesses.{param_or, term_of, next_behind, Columns, k
 use Rattle.prog_check.specs.Paths.{Passed, Route, routes, statement_count, accesses_along, path_of, program_paths}
 use Rattle.prog_check.specs.Sound.{IsSoundProgram}
 use Rattle.prog_paths.specs.Few.{IsTermBelow, IsColumnBelow, IsAccessBelow}
+use Rattle.prog_paths.specs.Limits.{most_terms}
 use Rattle.prog_paths.proofs.Walking.{next_low, statement_low, AreShort, short_routes}
 
 abbrev AreColumnsBelow : ℕ → Columns → Type 0
@@ -86,8 +87,8 @@ module _ (tables : List TableDecl) (params : List Name) (bound : ℕ) (few : len
       (along_below 0 r.passed (let own = short.0 in omega (arith, own, within)))
       (paths_below program k within rs short.1)
 
-pub program_below : (tables : List TableDecl) (n : ℕ) (p : ProgramTree) → IsSoundProgram tables n p → All (λ path. All (IsAccessBelow 768) path.accesses) (program_paths tables n p)
+pub program_below : (tables : List TableDecl) (n : ℕ) (p : ProgramTree) → IsSoundProgram tables n p → All (λ path. All (IsAccessBelow most_terms) path.accesses) (program_paths tables n p)
 program_below tables n p sound =
     let params = sound.few_params in
     let statements = sound.few_statements in
-    paths_below tables p.params 768 (omega (arith, params)) n (statement_count p.body) (omega (arith, statements)) (routes 0 p.body) (short_routes 0 p.body)
+    paths_below tables p.params most_terms (omega (arith, params)) n (statement_count p.body) (omega (arith, statements)) (routes 0 p.body) (short_routes 0 p.body)

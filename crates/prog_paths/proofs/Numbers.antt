@@ -13,8 +13,7 @@ some_is : (a b : ℤ) → Some a ≡ Some b → a ≡ b
 some_is a b e = cc
 
 abbrev pub AllI64 : List ℤ → Type 0
-AllI64 [] = Unit {0}
-AllI64 (x ∷ xs) = IsI64 x × AllI64 xs
+AllI64 = AllByRecursion IsI64
 
 abbrev pub RowsOfI64 : TableState → Type 0
 RowsOfI64 m = AllByRecursion IsI64Row m
@@ -48,11 +47,7 @@ BlockFits (Each l body rest) = BlockFits body × BlockFits rest
 
 -- from the forms of the law
 pub all_i64 : (xs : List ℤ) → All IsI64 xs → AllI64 xs
-all_i64 xs h = go xs (recursion_from_All IsI64 xs h)
-  where
-    go : (ys : List ℤ) → AllByRecursion IsI64 ys → AllI64 ys
-    go [] k = tt
-    go (y ∷ ys) k = (k.0, go ys k.1)
+all_i64 xs h = recursion_from_All IsI64 xs h
 
 pub rows_i64 : (m : TableState) → HasI64Rows m → RowsOfI64 m
 rows_i64 m h = recursion_from_All IsI64Row m h

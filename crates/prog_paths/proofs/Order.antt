@@ -5,12 +5,12 @@ use Rattle.std.proofs.lemmas.List.Elements.{All-nil, All-cons, All-head, All-tai
 use Rattle.std.proofs.lemmas.Option.{none-some, same_Some, slice_get_within, get_or_from_slice_get}
 use Rattle.prog_check.specs.declared.path.Access.{Access}
 use Rattle.prog_check.specs.declared.path.Path.{Path}
-use Rattle.prog_paths.specs.StaticGraph.{QuestionNumbers}
+use Rattle.prog_paths.specs.StaticGraph.{Precedes, Rises, QuestionNumbers}
 use Rattle.prog_paths.specs.declared.accesses.places.Placed.{Placed}
 use Rattle.prog_paths.specs.declared.accesses.questions.Question.{Question}
 use Rattle.prog_paths.specs.Places.{placed_from, all_from}
 use Rattle.prog_paths.specs.Questions.{asks, question_between, asked_by, asked_among, numbers_of}
-use Rattle.prog_paths.specs.Listing.{IsPlaceBefore, IsBefore, RiseBy, LawOfOrder}
+use Rattle.prog_paths.specs.Listing.{IsBefore, RiseBy, LawOfOrder}
 use Rattle.prog_paths.proofs.Questions.{placed, if_append}
 
 abbrev Before : Question → Question → Type 0
@@ -22,11 +22,10 @@ Rise = RiseBy numbers_of
 -- ---- places rise
 
 abbrev PlaceBefore : Placed → Placed → Type 0
-PlaceBefore p r = IsPlaceBefore p.node p.number r.node r.number
+PlaceBefore p r = Precedes p.node p.number r.node r.number
 
 abbrev PlacesRise : List Placed → Type 0
-PlacesRise [] = Unit {0}
-PlacesRise (p ∷ rest) = All (λ later. PlaceBefore p later) rest × PlacesRise rest
+PlacesRise = Rises PlaceBefore
 
 before_node : (p : Placed) (node n : ℕ) (xs : List Access) → (p.node < node) ⊎ ((p.node ≡ node) × (p.number < n)) → All (λ later. PlaceBefore p later) (placed_from node n xs)
 before_node p node n [] h = All-nil (λ later. PlaceBefore p later)
@@ -72,11 +71,11 @@ all_map : (P Q : Placed → Type 0) (xs : List Placed) → ((p : Placed) → P p
 all_map P Q [] f h = All-nil Q
 all_map P Q (x ∷ xs) f h = All-cons Q x xs (f x (All-head P x xs h)) (all_map P Q xs f (All-tail P x xs h))
 
-before_among : (q : Question) (firsts seconds : List Placed) → All (λ f. IsPlaceBefore q.x q.a f.node f.number) firsts → All (λ later. Before q later) (asked_among firsts seconds)
+before_among : (q : Question) (firsts seconds : List Placed) → All (λ f. Precedes q.x q.a f.node f.number) firsts → All (λ later. Before q later) (asked_among firsts seconds)
 before_among q [] seconds h = All-nil (λ later. Before q later)
 before_among q (f ∷ firsts) seconds h =
-    let head = All-head (λ g. IsPlaceBefore q.x q.a g.node g.number) f firsts h in
-    let tail = All-tail (λ g. IsPlaceBefore q.x q.a g.node g.number) f firsts h in
+    let head = All-head (λ g. Precedes q.x q.a g.node g.number) f firsts h in
+    let tail = All-tail (λ g. Precedes q.x q.a g.node g.number) f firsts h in
     All-append (λ later. Before q later) (asked_by f seconds) (asked_among firsts seconds)
     (before_by q f seconds (all_of (λ s. Before q (question_between f s)) seconds (λ s. inl head))) (before_among q firsts seconds tail)
 
@@ -96,7 +95,7 @@ among_rises : (firsts seconds : List Placed) → PlacesRise firsts → PlacesRis
 among_rises [] seconds p s = tt
 among_rises (f ∷ firsts) seconds p s =
     by_rises f seconds (asked_among firsts seconds) s (among_rises firsts seconds p.1 s)
-    (λ q ex ea. before_among q firsts seconds (all_map (λ later. PlaceBefore f later) (λ later. IsPlaceBefore q.x q.a later.node later.number) firsts (λ later k. subst (λ (n : ℕ). IsPlaceBefore n q.a later.node later.number) (sym ex) (subst (λ (n : ℕ). IsPlaceBefore f.node n later.node later.number) (sym ea) k)) p.0))
+    (λ q ex ea. before_among q firsts seconds (all_map (λ later. PlaceBefore f later) (λ later. Precedes q.x q.a later.node later.number) firsts (λ later k. subst (λ (n : ℕ). Precedes n q.a later.node later.number) (sym ex) (subst (λ (n : ℕ). Precedes f.node n later.node later.number) (sym ea) k)) p.0))
 
 pub law_of_order : LawOfOrder
 law_of_order paths = among_rises (all_from 0 paths) (all_from 0 paths) (all_rise 0 paths) (all_rise 0 paths)

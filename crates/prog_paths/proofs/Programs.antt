@@ -23,7 +23,7 @@ use Rattle.prog_paths.proofs.Ranges.{nth_i64, EnvOfI64, Ranged}
 use Rattle.prog_tree.specs.Value.{same_name, value_in}
 use Rattle.prog_paths.specs.Choices.{program_choices}
 use Rattle.prog_paths.specs.Follows.{LooksAt, Changes, KeepsCell, HasRow, FoundAs, ChangedAs, Touch, Follows}
-use Rattle.prog_tree.proofs.Elements.{IsMember, member_map}
+use Rattle.prog_tree.proofs.Elements.{IsMember, member_map, contains_at, place_of, member_from_contains, contains_from_member}
 use Rattle.prog_paths.proofs.Segments.{Held, Segment}
 use Rattle.prog_paths.proofs.Values.{nth, agrees_nth, EnvFits, assigned, BlockSound}
 use Rattle.prog_paths.proofs.Blocks.{block_follows}
@@ -32,18 +32,14 @@ use Rattle.prog_paths.proofs.Distinct.{one_path}
 
 -- ---- members by their numbers
 
-pub place_of_member : {A : Type 0} (x : A) (xs : List A) → IsMember x xs → (n : ℕ) × (slice_get xs n ≡ Some x)
-place_of_member x [] h = absurd h
-place_of_member x (y ∷ xs) (inl e) = (0, ap (λ z. Some z) e)
-place_of_member x (y ∷ xs) (inr h) = let r = place_of_member x xs h in (suc r.0, r.1)
+pub place_of_member : {A : Type 0} (xs : List A) (x : A) → IsMember x xs → (n : ℕ) × (slice_get xs n ≡ Some x)
+place_of_member xs x h = place_of xs x (contains_from_member xs x h)
 
 pub member_at : {A : Type 0} (xs : List A) (n : ℕ) (x : A) → slice_get xs n ≡ Some x → IsMember x xs
-member_at [] n x e = absurd (cc)
-member_at (y ∷ xs) zero x e = inl (cc)
-member_at (y ∷ xs) (suc n) x e = inr (member_at xs n x e)
+member_at xs n x at = member_from_contains xs x (contains_at xs n x at)
 
 touch_of : (accesses : List Access) (v : Assignment) (c : Cell) (fits : Kind → Type 0) → Held accesses v c fits → Touch accesses v c fits
-touch_of accesses v c fits h = let r = place_of_member h.0 accesses h.1 in (r.0, h.0, r.1, h.2, h.3)
+touch_of accesses v c fits h = let r = place_of_member accesses h.0 h.1 in (r.0, h.0, r.1, h.2, h.3)
 
 -- from the start on, all that was looked at, changed and kept is in the path's accesses
 whole : (m : TableState) (path : Path) (v : Assignment) (p q : Progress) → p.looks ≡ [] → p.changes ≡ no_changes → Segment m v path.accesses p q → Follows m path v (as_evaluation Ready q)
@@ -109,7 +105,7 @@ program_follows tables number program args m sound args_fit rows body ready =
     let g = goes_on (run_block tables m program.body (at_start program args)) ready in
     let t = block_follows tables m program.params (nth args) (statement_follows tables m program.params (nth args)) (listing_follows tables m program.params (nth args)) 0 program.body (at_start program args) g.0 g.1 sound.body sound.arguments (λ c e. absurd (cc)) in
     let path = path_of tables number program.params t.route in
-    let r = place_of_member path (program_paths tables number program) (member_map (path_of tables number program.params) t.route (routes 0 program.body) t.of_block) in
+    let r = place_of_member (program_paths tables number program) path (member_map (path_of tables number program.params) t.route (routes 0 program.body) t.of_block) in
     let ranged : Ranged m (at_start program args) = record { rows = rows; env = zip_i64 program.params args args_fit; changes = tt } in
     let numbers = t.of_i64 body ranged in
     record {

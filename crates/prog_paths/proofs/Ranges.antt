@@ -20,10 +20,6 @@ use Rattle.prog_tree.proofs.NumberRuns.{IsI64Turn, turns-i64}
 use Rattle.prog_paths.proofs.Numbers.{AllI64, RowsOfI64, LiteralFits}
 use Rattle.prog_paths.proofs.Values.{nth}
 
-pub all_append : (xs ys : List ℤ) → AllI64 xs → AllI64 ys → AllI64 (xs ++ ys)
-all_append [] ys h k = k
-all_append (x ∷ xs) ys h k = (h.0, all_append xs ys h.1 k)
-
 pub nth_i64 : (xs : List ℤ) → AllI64 xs → (n : ℕ) → IsI64 (nth xs n)
 nth_i64 [] h n = (i64_is_tested (pos 0)).0 refl
 nth_i64 (x ∷ xs) h zero = h.0

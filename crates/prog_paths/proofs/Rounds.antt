@@ -1,5 +1,5 @@
 -- A run of a body makes its accesses at some times, whichever they are: in each turn with the values of that turn.
-use Rattle.std.proofs.Common.{◌≡◌, ℕ, zero, suc, ◌+◌, ◌-◌, Bool, true, false, List, [], ◌∷◌, ◌++◌, inl, inr, ◌⊎◌, length, map, take, refl, sym, subst, ap, ◌∙◌, arith, append_assoc, append-nil}
+use Rattle.std.proofs.Common.{◌≡◌, ℕ, zero, suc, ◌+◌, ◌-◌, Bool, true, false, List, [], ◌∷◌, ◌++◌, inl, inr, ◌⊎◌, length, map, take, refl, sym, subst, ap, ◌∙◌, arith, append_assoc, append-nil, true≢false}
 use Rattle.std.specs.Prelude.{ℤ, pos, Option, Some, None, if◌then◌else◌}
 use Rattle.std.proofs.Math.Seq.{take-append_seam}
 use Rattle.prog_tree.specs.declared.cell.Cell.{Cell}
@@ -28,9 +28,6 @@ use Rattle.prog_tree.proofs.Elements.{IsMember, member_left, member_right, membe
 use Rattle.prog_paths.proofs.Segments.{Segment, segment_none, segment_into, segment_join}
 use Rattle.prog_paths.proofs.Values.{Agrees, nth, EnvFits, assigned, IsApart, fits_push, BlockSound, RemovesPlain}
 use Rattle.prog_paths.proofs.Walking.{accesses_append}
-
-differ : true ≡ false → ⊥
-differ e = cc
 
 -- ---- values from an unknown on
 
@@ -97,7 +94,7 @@ module _ (tables : List TableDecl) (params : List Name) where
     where
       go : (IsMember a (accesses_along tables params (next_unknown u (columns_of params u p.statement)) ps) → MayCover a → ⊥) →
           IsMember a (accesses_of tables params u p.sure p.number p.statement) ⊎ IsMember a (accesses_along tables params (next_unknown u (columns_of params u p.statement)) ps) → ⊥
-      go later (inl x) = differ (sym k.0 ∙ sure_is u p.sure p.number p.statement a x ∙ h.0)
+      go later (inl x) = true≢false (sym k.0 ∙ sure_is u p.sure p.number p.statement a x ∙ h.0)
       go later (inr x) = later x k
 
 -- ---- times
@@ -128,7 +125,7 @@ module _ (tables : List TableDecl) (m : TableState) (params : List Name) (parame
         at_time a (assigned params parameter f) values c (λ n. nth_i64 d.values ok (n - u)) (at_own a v c (sure_is tables params u true number st a member) own),
         refl,
       ))
-      (λ a member covers. differ (sym covers.0 ∙ sure_is tables params u false number st a member))
+      (λ a member covers. true≢false (sym covers.0 ∙ sure_is tables params u false number st a member))
       (d.segment values u (agrees_from u d.values))
 
   -- a part of a body's accesses holds no more than all of them

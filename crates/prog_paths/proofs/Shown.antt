@@ -85,18 +85,14 @@ single_at path k a h at may =
     let inside = slice_get_within path.accesses k a at in
     subst (λ (b : Access). MayTouch b → IsSingle b) (get_or_from_slice_get path.accesses k a a at) (h k a inside) may
 
+may_touch-changes : (a : Access) → (a.kind ≡ Writes) ⊎ (a.kind ≡ Adds) → MayTouch a
+may_touch-changes a (inl e) = inl e
+may_touch-changes a (inr e) = inr (inl e)
+
 -- what a question asks of, its second access changes
 pub may_touch-second : (q : QuestionNumbers) (mine theirs : Access) → Asks q mine.kind theirs.kind → MayTouch theirs
-may_touch-second q mine theirs (inl (inl k)) = changes k.1
-  where
-    changes : (theirs.kind ≡ Writes) ⊎ (theirs.kind ≡ Adds) → MayTouch theirs
-    changes (inl e) = inl e
-    changes (inr e) = inr (inl e)
+may_touch-second q mine theirs (inl (inl k)) = may_touch-changes theirs k.1
 may_touch-second q mine theirs (inl (inr k)) = inr (inl k.1)
-may_touch-second q mine theirs (inr (inl (inl k))) = changes k.1
-  where
-    changes : (theirs.kind ≡ Writes) ⊎ (theirs.kind ≡ Adds) → MayTouch theirs
-    changes (inl e) = inl e
-    changes (inr e) = inr (inl e)
+may_touch-second q mine theirs (inr (inl (inl k))) = may_touch-changes theirs k.1
 may_touch-second q mine theirs (inr (inl (inr k))) = inr (inl k.1)
 may_touch-second q mine theirs (inr (inr k)) = inl k.1

@@ -1,5 +1,5 @@
 -- A sound program is what the law of paths asks for.
-use Rattle.std.proofs.Common.{◌≡◌, ℕ, zero, suc, ◌<◌, Bool, true, false, ◌||◌, List, [], ◌∷◌, ◌++◌, length, get_or, zip, refl, sym, ap, ◌∙◌, arith}
+use Rattle.std.proofs.Common.{◌≡◌, ℕ, zero, suc, ◌<◌, Bool, true, false, ◌||◌, List, [], ◌∷◌, ◌++◌, length, get_or, zip, refl, sym, ap, ◌∙◌, arith, true≢false}
 use Rattle.std.specs.Prelude.{ℤ, Option, Some, None, if◌then◌else◌}
 use Rattle.std.specs.Cmp.Lexicographic.{nat_list_eq_equiv}
 use Rattle.std.proofs.lemmas.List.Quantifiers.{position-Some}
@@ -63,11 +63,8 @@ is_in_names x (n ∷ names) (suc j) inside is = or_right (same_name x n) (is_amo
 is_apart : (params : List Name) (y : Name) → is_among params y ≡ false → IsApart params y
 is_apart params y new x i at = let r = position-Some (same_name x) params i [] at in go (same_name y x) refl (is_in_names x params i r.0 r.1)
   where
-    differ : true ≡ false → ⊥
-    differ e = cc
-
     go : (b : Bool) → same_name y x ≡ b → is_among params x ≡ true → same_name y x ≡ false
-    go true is there = absurd (differ (sym there ∙ sym (among_same y x is params) ∙ new))
+    go true is there = absurd (true≢false (sym there ∙ sym (among_same y x is params) ∙ new))
     go false is there = is
 
 new_apart : (params : List Name) (o : Option Name) → IsNoneOf params o → IsApartNew params o

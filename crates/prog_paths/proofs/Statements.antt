@@ -1,5 +1,5 @@
 -- Each statement that goes on follows its accesses.
-use Rattle.std.proofs.Common.{◌≡◌, ℕ, suc, ◌+◌, Bool, true, false, List, [], ◌∷◌, ◌++◌, ◌⊎◌, inl, inr, length, map, refl, sym, subst, ap, ◌∙◌, arith, append-nil}
+use Rattle.std.proofs.Common.{◌≡◌, ℕ, suc, ◌+◌, Bool, true, false, List, [], ◌∷◌, ◌++◌, ◌⊎◌, inl, inr, length, map, refl, sym, subst, ap, ◌∙◌, arith, append-nil, true≢false}
 use Rattle.std.specs.Prelude.{ℤ, pos, Contains, Option, Some, None, is_some, if◌then◌else◌, slice_get}
 use Rattle.std.proofs.lemmas.List.Elements.{Contains-push_cases}
 use Rattle.std.specs.List.{find}
@@ -464,10 +464,7 @@ module _ (tables : List TableDecl) (m : TableState) (params : List Name) (parame
           not_found at grow found = go h.how
             where
               go : ((z.looks ≡ p.looks) × (change_at p.changes cell ≡ Some seen)) ⊎ ((z.looks ≡ p.looks ++ look.One cell (row_at m cell) ∷ []) × (seen ≡ row_at m cell)) → ⊥
-              go (inl w) = absurd (cc_false (sym grow ∙ removes cell (w.1 ∙ ap (λ o. Some o) none) table (sym at)))
-                where
-                  cc_false : true ≡ false → ⊥
-                  cc_false t = cc
+              go (inl w) = absurd (true≢false (sym grow ∙ removes cell (w.1 ∙ ap (λ o. Some o) none) table (sym at)))
               go (inr w) = is_not_there (row_at m cell) (sym w.1 ∙ none) found
 
           two_only : (v : Assignment) (a b : Access) → cell_under v a ≡ cell → cell_under v b ≡ cell → (x : Access) → IsMember x (a ∷ b ∷ []) → MayCover x → cell_under v x ≡ cell

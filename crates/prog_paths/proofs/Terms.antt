@@ -20,7 +20,8 @@ use Rattle.prog_tree.specs.Number.{IsI64}
 use Rattle.prog_tree.specs.Table.{IsI64Cell}
 use Rattle.prog_tree.proofs.NumberLaws.{i64_is_tested}
 use Rattle.prog_paths.proofs.Numbers.{AllI64, KeyLiteralsFit}
-use Rattle.prog_paths.proofs.Ranges.{all_append, EnvOfI64, value_i64}
+use Rattle.prog_paths.proofs.SingleCells.{all-append}
+use Rattle.prog_paths.proofs.Ranges.{EnvOfI64, value_i64}
 use Rattle.prog_paths.proofs.Values.{Agrees, agrees_first, agrees_behind, EnvFits, assigned}
 
 -- both parts of a pair are there
@@ -126,7 +127,7 @@ module _ (params : List Name) (parameter : ℕ → ℤ) where
   two_fits env number a b x y t k =
       record {
         values = t.values ++ k.values;
-        of_i64 = λ h. all_append t.values k.values (t.of_i64 h) (k.of_i64 h);
+        of_i64 = λ h. all-append IsI64 t.values k.values (t.of_i64 h) (k.of_i64 h);
         count = λ u. k.count (next_behind params u a) ∙ (let c = t.count u in let d = length-append t.values k.values in omega (arith, c, d));
         fits = λ f u h.
             let first = t.fits f u (agrees_first f u t.values k.values h) in
@@ -170,7 +171,7 @@ module _ (params : List Name) (parameter : ℕ → ℤ) where
   one_range env number low high l h t k =
       record {
         values = t.values ++ k.values;
-        of_i64 = λ r. all_append t.values k.values (t.of_i64 r) (k.of_i64 r);
+        of_i64 = λ r. all-append IsI64 t.values k.values (t.of_i64 r) (k.of_i64 r);
         count = λ u. k.count (next_behind params u low) ∙ (let c = t.count u in let d = length-append t.values k.values in omega (arith, c, d));
         fits = λ f u agrees c inside.
             let is_low = t.fits f u (agrees_first f u t.values k.values agrees) in
@@ -188,7 +189,7 @@ module _ (params : List Name) (parameter : ℕ → ℤ) where
   two_range env number a low high x l h j t k =
       record {
         values = j.values ++ (t.values ++ k.values);
-        of_i64 = λ r. all_append j.values (t.values ++ k.values) (j.of_i64 r) (all_append t.values k.values (t.of_i64 r) (k.of_i64 r));
+        of_i64 = λ r. all-append IsI64 j.values (t.values ++ k.values) (j.of_i64 r) (all-append IsI64 t.values k.values (t.of_i64 r) (k.of_i64 r));
         count = λ u.
             k.count (next_behind params (next_behind params u a) low)
             ∙ (let b = j.count u in let c = t.count (next_behind params u a) in let d = length-append t.values k.values in let g = length-append j.values (t.values ++ k.values) in omega (arith, b, c, d, g));

@@ -26,17 +26,13 @@ count_from (Plain st) rest = omega arith
 count_from (Fork t a b) rest = omega arith
 count_from (Loop l body) rest = omega arith
 
+and_true : (w b : Bool) → (w && b) ≡ ((w && true) && b)
+and_true true b = refl
+and_true false b = refl
+
 pub commits_from : (x : StmtTree) (rest : BlockTree) → commits (block_from x rest) ≡ (commits (alone x) && commits rest)
-commits_from (Plain st) rest = go (not (is_abort st))
-  where
-    go : (w : Bool) → (w && commits rest) ≡ ((w && true) && commits rest)
-    go true = refl
-    go false = refl
-commits_from (Fork t a b) rest = go (commits a || commits b)
-  where
-    go : (w : Bool) → (w && commits rest) ≡ ((w && true) && commits rest)
-    go true = refl
-    go false = refl
+commits_from (Plain st) rest = and_true (not (is_abort st)) (commits rest)
+commits_from (Fork t a b) rest = and_true (commits a || commits b) (commits rest)
 commits_from (Loop l body) rest = refl
 
 pub lets_first : (x : StmtTree) (t : TestTree) (a b : BlockTree) (r : Bool) → x ≡ Fork t a b → r ≡ true → r ≡ commits a → r ≡ commits (alone x)

@@ -5,7 +5,8 @@ use Rattle.prog_check.specs.declared.path.Term.TheVariants.{Param, Literal, Unkn
 use Rattle.prog_check.specs.declared.path.Column.{Column}
 use Rattle.prog_check.specs.declared.path.Access.{Access}
 use Rattle.prog_check.specs.declared.path.Path.{Path}
-use Rattle.prog_check.specs.Limits.{most_programs, most_statements, most_paths, most_accesses}
+use Rattle.prog_check.specs.Limits.{most_programs, most_paths, most_accesses}
+use Rattle.prog_paths.specs.Limits.{most_terms}
 
 -- ---- terms
 
@@ -23,9 +24,8 @@ IsAccessBelow bound access = IsColumnBelow bound access.first × IfSome access.s
 
 -- ---- paths
 
--- each program has few paths, each path few accesses, and each statement at most three unknowns; a program has fewer
--- parameters than those
+-- each program has few paths, and each path few accesses, whose terms are numbered low
 pub record AreFew (nodes : List Path) : Type 0 where
   pub paths : length nodes ≤ most_programs * most_paths
   pub accesses : All (λ path. length path.accesses ≤ most_accesses) nodes
-  pub terms : All (λ path. All (IsAccessBelow (3 * most_statements)) path.accesses) nodes
+  pub terms : All (λ path. All (IsAccessBelow most_terms) path.accesses) nodes

@@ -1,8 +1,8 @@
 -- The laws of the list of questions: it has each once, in order.
-use Rattle.std.specs.Prelude.{◌≡◌, ◌↔◌, ℕ, ◌<◌, ◌⊎◌, List, [], ◌∷◌, All, Contains}
+use Rattle.std.specs.Prelude.{◌≡◌, ◌↔◌, ◌⊎◌, List, Contains}
 use Rattle.prog_check.specs.declared.path.Access.{Access}
 use Rattle.prog_check.specs.declared.path.Path.{Path}
-use Rattle.prog_paths.specs.StaticGraph.{QuestionNumbers, AsksOf}
+use Rattle.prog_paths.specs.StaticGraph.{Precedes, Rises, QuestionNumbers, AsksOf}
 use Rattle.prog_paths.specs.declared.accesses.questions.Question.{Question}
 use Rattle.prog_paths.specs.Questions.{Asks, numbers_of, questions_of}
 
@@ -15,18 +15,13 @@ pub record IsAskedOf (paths : List Path) (q : Question) : Type 0 where
   pub their_kind : q.theirs ≡ theirs.kind
   pub asks : Asks (numbers_of q) mine.kind theirs.kind
 
--- the place of an access stands before that of another, by node and then by number
-abbrev pub IsPlaceBefore : ℕ → ℕ → ℕ → ℕ → Type 0
-IsPlaceBefore x a y b = (x < y) ⊎ ((x ≡ y) × (a < b))
-
--- a question stands before another, by the first access and then by the second
+-- a question stands before another, by the first access and then by the second, each by its node and then by its number
 abbrev pub IsBefore : QuestionNumbers → QuestionNumbers → Type 0
-IsBefore p q = IsPlaceBefore p.x p.a q.x q.a ⊎ ((p.x ≡ q.x) × (p.a ≡ q.a) × IsPlaceBefore p.y p.b q.y q.b)
+IsBefore p q = Precedes p.x p.a q.x q.a ⊎ ((p.x ≡ q.x) × (p.a ≡ q.a) × Precedes p.y p.b q.y q.b)
 
 -- the question of each thing stands before those of all that follow
 abbrev pub RiseBy : {A : Type 0} → (A → QuestionNumbers) → List A → Type 0
-RiseBy question [] = Unit {0}
-RiseBy question (x ∷ rest) = All (λ later. IsBefore (question x) (question later)) rest × RiseBy question rest
+RiseBy question = Rises (λ x later. IsBefore (question x) (question later))
 
 -- the list has a question just where the paths ask it
 abbrev pub LawOfListing : Type 0

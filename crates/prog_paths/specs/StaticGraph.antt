@@ -1,10 +1,25 @@
 -- Questions, static dependency edges, vulnerable edges, and dangerous structures over the committing paths of a set.
-use Rattle.std.specs.Prelude.{◌≡◌, ℕ, List, [], ◌∷◌, ◌<◌, ◌≤◌, ◌⊎◌, slice_get, Some}
+use Rattle.std.specs.Prelude.{◌≡◌, ℕ, List, [], ◌∷◌, ◌<◌, ◌≤◌, ◌⊎◌, All, slice_get, Some}
 use Rattle.prog_check.specs.declared.path.Kind.{Kind}
 use Rattle.prog_check.specs.declared.path.Kind.TheVariants.{Reads, Sees, Lacks, Writes, Adds}
 use Rattle.prog_check.specs.declared.path.Access.{Access}
 use Rattle.prog_check.specs.declared.path.Path.{Path}
 use Rattle.prog_paths.specs.Meeting.{Assignment, MayCover, AreSameCell, MeetsUnder, CanMeet}
+
+-- ---- before, by one number and then by another
+
+-- the first two numbers stand before the second two, by the first number and then by the second
+abbrev pub Precedes : ℕ → ℕ → ℕ → ℕ → Type 0
+Precedes a b c d = (a < c) ⊎ ((a ≡ c) × (b < d))
+
+-- they stand before them, or are the same
+abbrev pub IsUpToPair : ℕ → ℕ → ℕ → ℕ → Type 0
+IsUpToPair a b c d = (a < c) ⊎ ((a ≡ c) × (b ≤ d))
+
+-- each stands before all that follow
+abbrev pub Rises : {A : Type 0} → (A → A → Type 0) → List A → Type 0
+Rises IsBefore [] = Unit {0}
+Rises IsBefore (x ∷ rest) = All (IsBefore x) rest × Rises IsBefore rest
 
 -- ---- questions
 
@@ -30,7 +45,7 @@ AsksWriteRead a b = ((a ≡ Reads) × ((b ≡ Writes) ⊎ (b ≡ Adds))) ⊎ ((a
 
 -- the first access stands at the second or before it, by node and then by number
 abbrev pub IsInOrder : QuestionNumbers → Type 0
-IsInOrder q = (q.x < q.y) ⊎ ((q.x ≡ q.y) × (q.a ≤ q.b))
+IsInOrder q = IsUpToPair q.x q.a q.y q.b
 
 -- both change a cell: a write-write dependency, either way; such a pair is asked once
 abbrev pub AsksWriteWrite : QuestionNumbers → Kind → Kind → Type 0

@@ -10,6 +10,7 @@ use Rattle.prog_check.specs.declared.path.Path.{Path}
 use Rattle.prog_check.specs.Accesses.{Columns, columns_of, next_unknown, accesses_of, kinds_of}
 use Rattle.prog_check.specs.Paths.{Passed, Route, body_passed, accesses_along}
 use Rattle.prog_check.specs.Uses.{is_abort, own_statement}
+use Rattle.prog_paths.specs.Limits.{most_unknowns}
 use Rattle.prog_paths.specs.declared.path.trail.Trail.{Trail}
 
 -- ---- statements
@@ -86,9 +87,9 @@ all_along tables params (t ∷ ts) rs = map (along tables params t) rs ++ all_al
 abbrev pub path_with : (program : ℕ) → Trail → Path
 path_with program t = record { program = program; choices = t.choices; accesses = t.accesses }
 
--- before the statement of this number a trail has met at most three unknowns for each
+-- before the statement of this number a trail has met no more unknowns than the most for each
 abbrev pub IsLow : (number : ℕ) → Trail → Type 0
-IsLow number t = t.unknown ≤ 3 * number
+IsLow number t = t.unknown ≤ most_unknowns * number
 
 abbrev pub AreLow : (number : ℕ) → List Trail → Type 0
 AreLow number ts = AllByRecursion (IsLow number) ts

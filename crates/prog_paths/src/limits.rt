@@ -8,5 +8,8 @@ pub const MAX_QUESTIONS: usize = 1_000_000;
 /// The most statements that are counted: one more than a program of a set has.
 pub const MAX_COUNTED: usize = MAX_STATEMENTS + 1;
 
-/// More unknowns than a path has ahead of a statement: each statement before it has at most three.
-pub const MAX_UNKNOWNS: usize = 1024;
+/// The most unknowns of a statement.
+const UNKNOWNS_OF_A_STATEMENT: usize = 3;
+
+/// More unknowns than a path has ahead of a statement.
+pub const MAX_UNKNOWNS: usize = UNKNOWNS_OF_A_STATEMENT * MAX_STATEMENTS + 1;

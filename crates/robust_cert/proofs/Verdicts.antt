@@ -11,10 +11,10 @@ use Rattle.robust_cert.specs.declared.certificate.Certificate.{Certificate}
 use Rattle.prog_paths.specs.declared.accesses.mark.EdgeTables.{EdgeTables}
 use Rattle.robust_cert.specs.declared.fault.CertFault.{CertFault}
 use Rattle.robust_cert.specs.declared.fault.CertFault.TheVariants.{TooLarge, PathCount, NoSuchEntry, EntryOrder, BadChain, BadCover, LevelFalls, Dangerous, Memory}
-use Rattle.robust_cert.specs.Accepted.{question_of, Holds, IsLeft, IsLeftVulnerable, level_of, IsAccepted}
+use Rattle.robust_cert.specs.Accepted.{question_of, Holds, IsLeft, IsLeftVulnerable, level_in, level_of, IsAccepted}
 use Rattle.robust_cert.specs.Refused.{StandTo, IsFirstFault}
 use Rattle.robust_cert.specs.Leaving.{Leaves}
-use Rattle.robust_cert.specs.Levels.{FallsAlong, Stays, IsLevelFault, level_in, FallsIn, StaysIn, RiseOver}
+use Rattle.robust_cert.specs.Levels.{FallsAlong, Stays, IsLevelFault, FallsIn, StaysIn, RiseOver}
 use Rattle.robust_cert.specs.Sharing.{Entry}
 use Rattle.robust_cert.proofs.Cursor.{behind-entry}
 use Rattle.robust_cert.proofs.Leftover.{left-from_joins, joins-from_left, vulnerable-from_joins, joins-from_vulnerable}

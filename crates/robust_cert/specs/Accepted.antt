@@ -94,9 +94,13 @@ IsLeft nodes entries = EdgeOf (λ q mine theirs. ¬ IsToldApart entries q) nodes
 abbrev pub IsLeftVulnerable : List Path → List Entry → ℕ → ℕ → Type 0
 IsLeftVulnerable nodes entries = HasReadWrite (λ q mine theirs. ¬ IsTold entries q) nodes
 
--- the level of a node
+-- the level of a node in a list
+abbrev pub level_in : List ℕ → ℕ → ℕ
+level_in levels x = slice_index_or levels x 0
+
+-- and by a certificate
 abbrev pub level_of : Certificate → ℕ → ℕ
-level_of c x = slice_index_or c.levels x 0
+level_of c = level_in c.levels
 
 -- levels never fall along an edge, and rise over two vulnerable edges in a row
 pub record LevelsRise (edge vulnerable : ℕ → ℕ → Type 0) (level : ℕ → ℕ) : Type 0 where

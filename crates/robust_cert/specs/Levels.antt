@@ -1,10 +1,11 @@
 -- Levels that fall, or don't rise, over edges: those of any relation, and those of a table.
-use Rattle.std.specs.Prelude.{◌≡◌, ℕ, ◌<◌, ◌≤◌, List, [], ◌∷◌, slice_index_or}
+use Rattle.std.specs.Prelude.{◌≡◌, ℕ, ◌<◌, ◌≤◌, List, [], ◌∷◌}
 use Rattle.prog_paths.specs.declared.accesses.mark.EdgeTables.{EdgeTables}
 use Rattle.robust_cert.specs.declared.checking.levels.Edge.{Edge}
 use Rattle.robust_cert.specs.declared.checking.levels.Triple.{Triple}
 use Rattle.robust_cert.specs.declared.fault.CertFault.{CertFault}
 use Rattle.robust_cert.specs.declared.fault.CertFault.TheVariants.{LevelFalls, Dangerous}
+use Rattle.robust_cert.specs.Accepted.{level_in}
 use Rattle.order_facts.specs.Square.{Grid, Joins}
 use Rattle.prog_paths.specs.StaticGraph.{IsAtMost}
 
@@ -40,10 +41,6 @@ IsLevelFault joins vulnerable level (Dangerous x y z) =
 IsLevelFault joins vulnerable level _ = ⊥
 
 -- ---- edges of a table
-
--- the level of a node in a list
-abbrev pub level_in : List ℕ → ℕ → ℕ
-level_in levels x = slice_index_or levels x 0
 
 abbrev pub FallsIn : Grid → List ℕ → ℕ → ℕ → Type 0
 FallsIn edges levels = FallsAlong (Joins edges) (level_in levels)

@@ -55,7 +55,8 @@ impl Chain {
         Chain::from_nodes(Nodes::from_vec(nodes))
     }
 
-    /// The same of nodes in a row, with no memory of its own.
+    /// The chain of nodes in a row, with no memory of its own, or none where a number is too great
+    /// for the text.
     pub fn from_nodes(nodes: Nodes) -> Option<Self>
         ensures some { IfSome result (λ chain. chain ≡ nodes) }
         ensures none { IfNone result (¬ All IsOfSmall nodes) }

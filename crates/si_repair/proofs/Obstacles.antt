@@ -1,5 +1,5 @@
 -- Ranges by the numbers of their statements, and exposed reads that no keep covers.
-use Rattle.std.proofs.Common.{◌≡◌, ◌↔◌, ℕ, zero, suc, ◌+◌, ◌<◌, ◌≤◌, ◌⊎◌, inl, inr, Bool, true, false, not, List, [], ◌∷◌, ◌++◌, length, take, get_or, refl, sym, subst, ap, ◌∙◌, arith, Contains, length-append}
+use Rattle.std.proofs.Common.{◌≡◌, ◌↔◌, ℕ, zero, suc, ◌+◌, ◌<◌, ◌≤◌, ◌⊎◌, inl, inr, Bool, true, false, not, List, [], ◌∷◌, ◌++◌, length, take, get_or, refl, sym, subst, ap, ◌∙◌, arith, Contains, length-append, get_or-append-add}
 use Rattle.std.specs.Prelude.{Option, Some, None, is_some, slice_get, All}
 use Rattle.std.proofs.lemmas.Bool.{false≢true}
 use Rattle.std.proofs.lemmas.List.{take_all, append_assoc}
@@ -15,7 +15,7 @@ use Rattle.prog_paths.specs.declared.accesses.questions.Question.{Question}
 use Rattle.prog_paths.proofs.Marked.{same_access}
 use Rattle.repair_laws.specs.declared.plan.Pair.{Pair}
 use Rattle.repair_laws.specs.Keys.{ExposedOf}
-use Rattle.repair_laws.specs.Refusals.{IsStatementAt, IsRange, IsRangeAt, HasUnknownKey, HasRangeRead, HasUnknownRead, HasBodyRead}
+use Rattle.repair_laws.specs.Refusals.{IsStatementAt, IsRange, IsRangeAt, HasUnknownKey, HasRangeRead, HasUnknownRead, MeetInBody, HasBodyRead}
 use Rattle.si_repair.specs.Exposed.{AreExposed, HasRead, HasBoth}
 use Rattle.si_repair.specs.Obstacles.{IsObstacle, range_list, program_ranges, Hinders, HasHindered, IsFirstHindered, IsHindered, IsRangeIn}
 use Rattle.si_repair.specs.declared.repairs.obstacles.Obstacle.{Obstacle}
@@ -59,8 +59,7 @@ listed_left (x ∷ xs) ys zero h = h
 listed_left (x ∷ xs) ys (suc n) h = listed_left xs ys n h
 
 listed_right : (xs ys : List Bool) (n : ℕ) → get_or ys n false ≡ true → get_or (xs ++ ys) (length xs + n) false ≡ true
-listed_right [] ys n h = let e : 0 + n ≡ n = omega arith in ap (λ (k : ℕ). get_or ys k false) e ∙ h
-listed_right (x ∷ xs) ys n h = let e : length (x ∷ xs) + n ≡ suc (length xs + n) = omega arith in ap (λ (k : ℕ). get_or (x ∷ (xs ++ ys)) k false) e ∙ listed_right xs ys n h
+listed_right xs ys n h = get_or-append-add xs ys n false ∙ h
 
 -- the list of a branch, pushed one part after the other
 pub branch_ranges : (old one two three xs ys zs : List Bool) → one ≡ old ++ false ∷ [] → two ≡ one ++ xs → three ≡ two ++ ys → three ++ zs ≡ old ++ (false ∷ (xs ++ (ys ++ zs)))
@@ -337,7 +336,7 @@ module _ (draft : DraftTree) (nodes : List Path) (is : nodes ≡ paths_of draft)
   reads-from_unknown ranges h = let o = subst UnknownReadOf (sym is) h in hindered_of ranges UnknownKey o.0 o.1
 
   abbrev BodyReadOf : List Path → Type 0
-  BodyReadOf ns = (e : ExposedOf ns pair) × ((e.question.mine.sure ≡ false) ⊎ (e.question.theirs.sure ≡ false))
+  BodyReadOf ns = (e : ExposedOf ns pair) × MeetInBody e.question.mine e.question.theirs
 
   body-from_meets : (ranges : ℕ → Type 0) → HasHindered nodes ranges BodyRead qs → HasBodyRead draft pair
   body-from_meets ranges h = subst BodyReadOf is (of_hindered ranges BodyRead h)

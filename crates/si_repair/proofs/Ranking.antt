@@ -44,15 +44,8 @@ rising-front (z ∷ xs) x h = (((λ q c. h.0 q (Contains-append_left xs (x ∷ [
     before : ((y : ℕ × ℕ) → Contains xs y → IsEarlier y x) → (y : ℕ × ℕ) → Contains (z ∷ xs) y → IsEarlier y x
     before rest y c = go (Contains-append_cases (z ∷ []) xs y c)
       where
-        one : Contains (z ∷ []) y → z ≡ y
-        one k = only_z (Contains-push_cases [] z y k)
-          where
-            only_z : Contains [] y ⊎ (z ≡ y) → z ≡ y
-            only_z (inl n) = absurd (nothing y n)
-            only_z (inr e) = e
-
         go : Contains (z ∷ []) y ⊎ Contains xs y → IsEarlier y x
-        go (inl k) = subst (λ (r : ℕ × ℕ). IsEarlier r x) (one k) (h.0 x (Contains-push xs x))
+        go (inl k) = subst (λ (r : ℕ × ℕ). IsEarlier r x) (only_one z y k) (h.0 x (Contains-push xs x))
         go (inr k) = rest y k
 
 rising-append : (xs ys : List (ℕ × ℕ)) → ArePairsRising xs → ArePairsRising ys → ((x y : ℕ × ℕ) → Contains xs x → Contains ys y → IsEarlier x y) → ArePairsRising (xs ++ ys)

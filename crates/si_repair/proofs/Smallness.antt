@@ -13,6 +13,7 @@ use Rattle.prog_check.specs.declared.path.Column.{Column}
 use Rattle.prog_check.specs.declared.path.Access.{Access}
 use Rattle.prog_check.specs.declared.path.Path.{Path}
 use Rattle.prog_paths.specs.Few.{IsTermBelow, IsColumnBelow, IsAccessBelow, AreFew}
+use Rattle.prog_paths.specs.Limits.{most_terms}
 use Rattle.prog_paths.specs.Facts.{mine_node, their_node, column_facts, column_or_zero, second_facts, question_facts}
 use Rattle.prog_paths.specs.Shown.{Falls, Runs, ShowEqual, second_terms, key_pairs}
 use Rattle.prog_paths.specs.StaticGraph.{IsAccessOf}
@@ -21,38 +22,38 @@ use Rattle.si_repair.specs.Certificates.{TightFits}
 
 -- ---- nodes
 
-mine-small : (t : Term) → IsTermBelow 768 t → IsOfSmall (mine_node t)
+mine-small : (t : Term) → IsTermBelow most_terms t → IsOfSmall (mine_node t)
 mine-small (Param i) h = omega (arith, h)
 mine-small (Literal k) h = tt
 mine-small (Unknown i) h = omega (arith, h)
 
-their-small : (t : Term) → IsTermBelow 768 t → IsOfSmall (their_node t)
+their-small : (t : Term) → IsTermBelow most_terms t → IsOfSmall (their_node t)
 their-small (Param i) h = omega (arith, h)
 their-small (Literal k) h = tt
 their-small (Unknown i) h = omega (arith, h)
 
 abbrev pub ArePairBelow : Term × Term → Type 0
-ArePairBelow p = IsTermBelow 768 p.0 × IsTermBelow 768 p.1
+ArePairBelow p = IsTermBelow most_terms p.0 × IsTermBelow most_terms p.1
 
 -- ---- facts
 
 abbrev pub AreEndsSmall : Fact → Type 0
 AreEndsSmall f = IsOfSmall f.lo × IsOfSmall f.hi
 
-column-small : (mine theirs : Column) → IsColumnBelow 768 mine → IsColumnBelow 768 theirs → All AreEndsSmall (column_facts mine theirs)
+column-small : (mine theirs : Column) → IsColumnBelow most_terms mine → IsColumnBelow most_terms theirs → All AreEndsSmall (column_facts mine theirs)
 column-small mine theirs m t =
     let low = their-small theirs.low t.0 in
     let first : Fact = record { lo = mine_node mine.low; hi = their_node theirs.low } in
     let second : Fact = record { lo = their_node theirs.low; hi = mine_node mine.high } in
     All-cons AreEndsSmall first (second ∷ []) (mine-small mine.low m.0, low) (All-cons AreEndsSmall second [] (low, mine-small mine.high m.1) (All-nil AreEndsSmall))
 
-second-small : (mine theirs : Option Column) → IfSome mine (IsColumnBelow 768) → IfSome theirs (IsColumnBelow 768) → All AreEndsSmall (second_facts mine theirs)
+second-small : (mine theirs : Option Column) → IfSome mine (IsColumnBelow most_terms) → IfSome theirs (IsColumnBelow most_terms) → All AreEndsSmall (second_facts mine theirs)
 second-small None None m t = All-nil AreEndsSmall
 second-small None (Some d) m t = column-small (column_or_zero None) d (tt, tt) t
 second-small (Some c) None m t = column-small c (column_or_zero None) m (tt, tt)
 second-small (Some c) (Some d) m t = column-small c d m t
 
-pub question-small : (mine theirs : Access) → IsAccessBelow 768 mine → IsAccessBelow 768 theirs → All AreEndsSmall (question_facts mine theirs)
+pub question-small : (mine theirs : Access) → IsAccessBelow most_terms mine → IsAccessBelow most_terms theirs → All AreEndsSmall (question_facts mine theirs)
 question-small mine theirs m t =
     All-append AreEndsSmall (column_facts mine.first theirs.first) (second_facts mine.second theirs.second)
     (column-small mine.first theirs.first m.0 t.0) (second-small mine.second theirs.second m.1 t.1)
@@ -96,16 +97,16 @@ module _ (facts : List Fact) (ends : All AreEndsSmall facts) where
 
 -- ---- accesses
 
-pub pairs-below : (mine theirs : Access) → IsAccessBelow 768 mine → IsAccessBelow 768 theirs → All ArePairBelow (key_pairs mine theirs)
+pub pairs-below : (mine theirs : Access) → IsAccessBelow most_terms mine → IsAccessBelow most_terms theirs → All ArePairBelow (key_pairs mine theirs)
 pairs-below mine theirs m t = All-cons ArePairBelow (mine.first.low, theirs.first.low) (second_terms mine.second theirs.second) (m.0.0, t.0.0) (go mine.second theirs.second m.1 t.1)
   where
-    go : (c d : Option Column) → IfSome c (IsColumnBelow 768) → IfSome d (IsColumnBelow 768) → All ArePairBelow (second_terms c d)
+    go : (c d : Option Column) → IfSome c (IsColumnBelow most_terms) → IfSome d (IsColumnBelow most_terms) → All ArePairBelow (second_terms c d)
     go None None h k = All-nil ArePairBelow
     go None (Some d) h k = All-cons ArePairBelow (Literal (pos 0), d.low) [] (tt, k.0) (All-nil ArePairBelow)
     go (Some c) None h k = All-cons ArePairBelow (c.low, Literal (pos 0)) [] (h.0, tt) (All-nil ArePairBelow)
     go (Some c) (Some d) h k = All-cons ArePairBelow (c.low, d.low) [] (h.0, k.0) (All-nil ArePairBelow)
 
-pub access-below : (paths : List Path) (x a : ℕ) (access : Access) → AreFew paths → IsAccessOf paths x a access → IsAccessBelow 768 access
+pub access-below : (paths : List Path) (x a : ℕ) (access : Access) → AreFew paths → IsAccessOf paths x a access → IsAccessBelow most_terms access
 access-below paths x a access few at =
-    let own = subst (λ (p : Path). All (IsAccessBelow 768) p.accesses) (get_or_from_slice_get paths x at.0 at.0 at.1) (few.terms x at.0 (slice_get_within paths x at.0 at.1)) in
-    subst (IsAccessBelow 768) (get_or_from_slice_get at.0.accesses a access access at.2) (own a access (slice_get_within at.0.accesses a access at.2))
+    let own = subst (λ (p : Path). All (IsAccessBelow most_terms) p.accesses) (get_or_from_slice_get paths x at.0 at.0 at.1) (few.terms x at.0 (slice_get_within paths x at.0 at.1)) in
+    subst (IsAccessBelow most_terms) (get_or_from_slice_get at.0.accesses a access access at.2) (own a access (slice_get_within at.0.accesses a access at.2))

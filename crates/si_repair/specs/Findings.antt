@@ -1,5 +1,5 @@
 -- What an analysis has to find of a list of paths, and why a set is not analysed.
-use Rattle.std.specs.Prelude.{◌⊎◌, ℕ, ◌<◌, ◌≤◌, List, length, slice_index_or, All}
+use Rattle.std.specs.Prelude.{◌⊎◌, ℕ, ◌<◌, ◌≤◌, List, length, All}
 use Rattle.prog_tree.specs.Syntax.{DraftTree}
 use Rattle.prog_check.specs.declared.path.Access.{Access}
 use Rattle.prog_check.specs.declared.path.Path.{Path}
@@ -18,7 +18,7 @@ use Rattle.dep_graph.specs.Danger.{IsLeastDanger}
 use Rattle.robust_cert.specs.declared.certificate.Certificate.{Certificate}
 use Rattle.robust_cert.specs.declared.entries.Reason.{Reason}
 use Rattle.robust_cert.specs.declared.entries.Reason.TheVariants.{Apart, Cover}
-use Rattle.robust_cert.specs.Accepted.{question_of, IsTold, IsAccepted}
+use Rattle.robust_cert.specs.Accepted.{question_of, level_in, IsTold, IsAccepted}
 use Rattle.robust_cert.specs.Sharing.{Entry}
 use Rattle.si_repair.specs.declared.fault.AnalyseFault.{AnalyseFault}
 use Rattle.si_repair.specs.declared.fault.AnalyseFault as faults
@@ -67,7 +67,7 @@ TellsEach nodes entries =
 abbrev pub AreCounted : List Path → (levels : List ℕ) → Type 0
 AreCounted nodes levels =
     (x : ℕ) → x < length nodes
-    → IsCountOf (λ u. Leads (StaticEdge nodes) u x) (length nodes) (slice_index_or levels x 0)
+    → IsCountOf (λ u. Leads (StaticEdge nodes) u x) (length nodes) (level_in levels x)
 
 -- the certificate of a list of paths: an entry for each harmless question, and the levels of the nodes
 pub record IsCertificateOf (nodes : List Path) (c : Certificate) : Type 0 where

@@ -1,5 +1,5 @@
 -- Parameters that exposed questions force equal: words of private clauses.
-use Rattle.std.specs.Prelude.{◌≡◌, ℕ, suc, zero, ◌<◌, ◌⊎◌, List, [], ◌∷◌, ◌++◌, Contains}
+use Rattle.std.specs.Prelude.{◌≡◌, ℕ, suc, zero, ◌<◌, List, [], ◌∷◌, ◌++◌, Contains}
 use Rattle.order_facts.specs.declared.steps.Node.TheVariants.{Mine, Theirs}
 use Rattle.order_facts.specs.declared.steps.Fact.{Fact}
 use Rattle.order_facts.specs.Chain.{ForcesEqual}
@@ -7,7 +7,7 @@ use Rattle.prog_check.specs.declared.path.Term.TheVariants.{Param}
 use Rattle.prog_check.specs.declared.path.Access.{Access}
 use Rattle.prog_check.specs.declared.path.Path.{Path}
 use Rattle.prog_paths.specs.Facts.{question_facts, AreEqualWhereTheyMeet}
-use Rattle.prog_paths.specs.StaticGraph.{AsksOf, AsksReadWrite}
+use Rattle.prog_paths.specs.StaticGraph.{Precedes, AsksOf, AsksReadWrite}
 use Rattle.prog_paths.specs.declared.accesses.questions.Question.{Question}
 use Rattle.prog_paths.specs.Questions.{numbers_of}
 
@@ -39,7 +39,7 @@ ForceEqual nodes questions i j =
 
 -- by the first program's, and then by the second's
 abbrev pub IsEarlier : ℕ × ℕ → ℕ × ℕ → Type 0
-IsEarlier p q = (p.0 < q.0) ⊎ ((p.0 ≡ q.0) × (p.1 < q.1))
+IsEarlier p q = Precedes p.0 p.1 q.0 q.1
 
 -- each stands before all that follow
 abbrev pub ArePairsRising : List (ℕ × ℕ) → Type 0
@@ -53,18 +53,18 @@ pub record AreLeft (facts : List Fact) (old new : List (ℕ × ℕ)) : Type 0 wh
   pub rise : ArePairsRising old → ArePairsRising new
 
 -- one parameter with each of so many, in order
-abbrev pub params_with : ℕ → (seconds : ℕ) → List (ℕ × ℕ)
+abbrev pub params_with : ℕ → (second_count : ℕ) → List (ℕ × ℕ)
 params_with first zero = []
 params_with first (suc n) = params_with first n ++ (first, n) ∷ []
 
 -- each of so many parameters with each of so many others, in order
-abbrev pub all_pairs : (firsts seconds : ℕ) → List (ℕ × ℕ)
-all_pairs zero seconds = []
-all_pairs (suc n) seconds = all_pairs n seconds ++ params_with n seconds
+abbrev pub all_pairs : (first_count second_count : ℕ) → List (ℕ × ℕ)
+all_pairs zero second_count = []
+all_pairs (suc n) second_count = all_pairs n second_count ++ params_with n second_count
 
 -- the pairs of parameters that the questions force equal, in order
-pub record AreForced (nodes : List Path) (questions : List Question) (firsts seconds : ℕ)
+pub record AreForced (nodes : List Path) (questions : List Question) (first_count second_count : ℕ)
     (pairs : List (ℕ × ℕ)) : Type 0 where
-  pub only : (i j : ℕ) → Contains pairs (i, j) → (i < firsts) × (j < seconds) × ForceEqual nodes questions i j
-  pub each : (i j : ℕ) → i < firsts → j < seconds → ForceEqual nodes questions i j → Contains pairs (i, j)
+  pub only : (i j : ℕ) → Contains pairs (i, j) → (i < first_count) × (j < second_count) × ForceEqual nodes questions i j
+  pub each : (i j : ℕ) → i < first_count → j < second_count → ForceEqual nodes questions i j → Contains pairs (i, j)
   pub rise : ArePairsRising pairs

@@ -1,5 +1,5 @@
 -- Why no keep covers a read, and, for private clauses, which statements of a program are ranges.
-use Rattle.std.specs.Prelude.{◌≡◌, ◌⊎◌, ℕ, Bool, true, false, List, [], ◌∷◌, ◌++◌, take, Contains, Option, Some, None, slice_get, slice_index_or}
+use Rattle.std.specs.Prelude.{◌≡◌, ℕ, Bool, true, false, List, [], ◌∷◌, ◌++◌, take, Contains, Option, Some, None, slice_get, slice_index_or}
 use Rattle.std.specs.Option.{option_map_or}
 use Rattle.prog_tree.specs.Syntax.{BlockTree, BlockEnd, Then, Branch, Each, ProgramTree, DraftTree}
 use Rattle.prog_check.specs.declared.path.Access.{Access}
@@ -9,7 +9,7 @@ use Rattle.prog_check.specs.Uses.{as_count}
 use Rattle.prog_paths.specs.StaticGraph.{IsAccessOf}
 use Rattle.prog_paths.specs.declared.accesses.questions.Question.{Question}
 use Rattle.repair_laws.specs.declared.plan.Pair.{Pair}
-use Rattle.repair_laws.specs.Refusals.{is_range, HasRangeRead, HasUnknownKey, IsCoverable, IsRangeAt, StopsAtBody, StopsAtKey}
+use Rattle.repair_laws.specs.Refusals.{is_range, HasRangeRead, HasUnknownKey, IsCoverable, IsRangeAt, MeetInBody, StopsAtBody, StopsAtKey}
 use Rattle.si_repair.specs.Exposed.{AreExposed}
 use Rattle.si_repair.specs.declared.repairs.fault.RepairFault.{RepairFault}
 use Rattle.si_repair.specs.declared.repairs.fault.RepairFault.TheVariants as fault
@@ -49,10 +49,6 @@ abbrev pub IsRangeIn : List Bool → (number : ℕ) → Type 0
 IsRangeIn ranges number = slice_index_or ranges number false ≡ true
 
 -- ---- reads
-
--- one of the two stands in the body of an `each`
-abbrev pub MeetInBody : (read other : Access) → Type 0
-MeetInBody read other = (read.sure ≡ false) ⊎ (other.sure ≡ false)
 
 -- What keeps a read from being promoted, with the access that it may miss: its statement is one of the program's ranges, no
 -- parameters and numbers tell its key, or one of the two stands in the body of an `each`.

@@ -39,7 +39,7 @@ impl Trail {
         Ok(trail)
     }
 
-    /// A copy that does.
+    /// A copy of the trail that takes the first block of a branch, or the second.
     pub fn copied_with_choice(&self, alloc: Global, first: bool) -> Result<Trail, AllocError>
         ensures { IfOk result (λ trail. trail ≡ with_choice first self.now) }
     {
@@ -48,7 +48,7 @@ impl Trail {
     }
 }
 
-// Adds an access of each kind.
+/// Adds an access of each kind.
 fn add_accesses(
     accesses: &mut Accesses,
     table: usize,

@@ -1,7 +1,8 @@
 //! Whether the levels rise over the edges that are left.
 ghost use Rattle.std.specs.Prelude.{◌≡◌, ℕ, ◌<◌, ◌≤◌, length, IfSome, IfNone, OnOk, IfErr};
 ghost use Rattle.order_facts.specs.Square.{Joins};
-ghost use Rattle.robust_cert.specs.Levels.{level_in, FallsIn, FallsFirst, IsLeastFall, StaysIn};
+ghost use Rattle.robust_cert.specs.Accepted.{level_in};
+ghost use Rattle.robust_cert.specs.Levels.{FallsIn, FallsFirst, IsLeastFall, StaysIn};
 ghost use Rattle.robust_cert.specs.Levels.{StaysFirst, IsLowestBehind, StaysFirstBy};
 ghost use Rattle.robust_cert.specs.Levels.{IsLeastFirstEdge, IsLeastStay, RiseOver, IsLevelFault};
 

@@ -1,6 +1,7 @@
 //! The four numbers of a question, and their order.
 ghost use Rattle.std.specs.Prelude.{◌≡◌, ◌↔◌, IsTrue};
-ghost use Rattle.prog_paths.specs.Listing.{IsPlaceBefore, IsBefore};
+ghost use Rattle.prog_paths.specs.StaticGraph.{Precedes};
+ghost use Rattle.prog_paths.specs.Listing.{IsBefore};
 ghost use Rattle.robust_cert.specs.Telling.{question_with, is_same};
 
 use crate::certificate::EntryQuestion;
@@ -16,7 +17,7 @@ pub struct Numbers {
 }
 
 fn is_place_before(x: usize, a: usize, y: usize, b: usize) -> bool
-    ensures { IsTrue result ↔ IsPlaceBefore x a y b }
+    ensures { IsTrue result ↔ Precedes x a y b }
 {
     x < y || (x == y && a < b)
 }

@@ -85,9 +85,9 @@ fn left_of(
 ) -> Result<Vec<(usize, usize)>, AllocError>
     requires single { All ChangesSingleCells paths.now }
     requires missed { All (λ q. IsMissed paths.now q) questions.now }
-    ensures { IfOk result (λ left. (earlier : List Asked) (firsts seconds : ℕ)
-        → AreForced paths.now earlier firsts seconds pairs.items
-        → AreForced paths.now (earlier ++ questions.now) firsts seconds left.items) }
+    ensures { IfOk result (λ left. (earlier : List Asked) (first_count second_count : ℕ)
+        → AreForced paths.now earlier first_count second_count pairs.items
+        → AreForced paths.now (earlier ++ questions.now) first_count second_count left.items) }
 {
     let mut left = pairs;
     for question in questions {

@@ -74,7 +74,7 @@ fn new_tables(
 }
 
 /// As many of the pairs as new tables fit, and one more, with which the set is too large.
-fn pairs_that_fit<'a>(draft: &Draft, pairs: &'a [Pair]) -> &'a [Pair]
+fn pairs_to_meet<'a>(draft: &Draft, pairs: &'a [Pair]) -> &'a [Pair]
     ensures { result.now
         ≡ take (1 + (MAX_TABLES - length (draft_tree draft.now).tables)) pairs.now }
 {
@@ -157,7 +157,7 @@ pub fn materialise(alloc: Global, set: &ProgramSet, plan: &Plan) -> Result<Progr
 {
     let paths = paths(alloc, set)?;
     let pairs = plan.pairs.as_slice();
-    let made = new_tables(alloc, set, &paths, pairs_that_fit(set.draft(), pairs))?;
+    let made = new_tables(alloc, set, &paths, pairs_to_meet(set.draft(), pairs))?;
     match with_new_tables(alloc, set, &made)? {
         Some(repaired) => Ok(repaired),
         None => Err(RepairFault::TooMany(first_stop(alloc, set, pairs, &made)?)),

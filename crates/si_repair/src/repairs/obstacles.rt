@@ -3,8 +3,9 @@ ghost use Rattle.std.specs.Prelude.{◌≡◌, ◌↔◌, false, All, IfOk, IsTr
 ghost use Rattle.prog_tree.specs.Tree.{draft_tree};
 ghost use Rattle.prog_check.specs.Paths.{paths_of};
 ghost use Rattle.repair_laws.specs.Refusals.{IsUnknownTerm, IsUnknownSecond, HasUnknownKey};
+ghost use Rattle.repair_laws.specs.Refusals.{MeetInBody};
 ghost use Rattle.si_repair.specs.Exposed.{HasBoth, AreExposed};
-ghost use Rattle.si_repair.specs.Obstacles.{IsObstacle, IsRangeIn, MeetInBody, Hinders};
+ghost use Rattle.si_repair.specs.Obstacles.{IsObstacle, IsRangeIn, Hinders};
 ghost use Rattle.si_repair.specs.Obstacles.{HasHindered, IsFirstHindered, IsFirstHinderedOf};
 
 use crate::repairs::exposed::{access_at, exposed_questions};

@@ -18,7 +18,7 @@ loop-pair-preserved c =
     let places = c.args.places.now in
     let pairs = c.args.pairs.now in
     let k = c.loop-pair.pair-index in
-    let old = c.loop-pair.verdicts.items in
+    let old = c.loop-pair.values.items in
     let new = c.number_of_verdict.new.verdicts.items in
     record {
       sound = sound-more paths places pairs old new k _ c.in_ok-verdict.verdict (c.requires k _ (omega arith)) c.in_ok-verdict.ensures c.in_ok-number.ensures.verdicts c.loop-pair.invariant.sound;
@@ -32,6 +32,6 @@ pub returns : goal.returns
 returns c = record {
   sound = c.loop-pair.invariant.sound;
   served =
-      subst (λ (l : List PlacePair). AllZip (IsServed (IsOnPair c.args.paths.now c.args.places.now) c.loop-pair.verdicts.items) l c.loop-pair.numbers.items)
+      subst (λ (l : List PlacePair). AllZip (IsServed (IsOnPair c.args.paths.now c.args.places.now) c.loop-pair.values.items) l c.loop-pair.numbers.items)
       (take_all c.loop-pair.pair-index c.args.pairs.now (omega arith)) c.loop-pair.invariant.served;
 }

@@ -1,9 +1,10 @@
-use Rattle.std.proofs.Common.{List, sym, subst, arith}
+use Rattle.std.proofs.Common.{List, sym, subst, arith, drop, refl}
 use Rattle.std.specs.Prelude.{All}
+use Rattle.std.proofs.lemmas.List.{drop_all}
 use Rattle.prog_paths.specs.Questions.{asked_among}
 use Rattle.conflict_pairs.specs.declared.pairing.PlacePair.{PlacePair}
 use Rattle.conflict_pairs.specs.Pairing.{HasPlaces, questions_at}
-use Rattle.conflict_pairs.proofs.Entries.{among_changers-more, among-end}
+use Rattle.conflict_pairs.proofs.Entries.{nothing-left, among_changers-more}
 use Rattle.conflict_pairs.proofs.Paired.{changers-stand, place-any}
 use Rattle.conflict_pairs.proofs.listing.all_questions.Goals as goal
 
@@ -29,4 +30,6 @@ loop-number-preserved c =
     }
 
 pub returns-clause-questions : goal.returns-clause-questions
-returns-clause-questions c = among-end (questions_at c.args.places.now c.loop-number.pairs.items) (asked_among c.args.places.now c.args.places.now) c.loop-number.number c.args.places.now c.args.places.now (omega arith) c.loop-number.invariant.questions
+returns-clause-questions c =
+    nothing-left (λ l. asked_among l c.args.places.now) (questions_at c.args.places.now c.loop-number.pairs.items) (asked_among c.args.places.now c.args.places.now) (drop c.loop-number.number c.args.places.now) refl
+    (drop_all c.loop-number.number c.args.places.now (omega arith)) c.loop-number.invariant.questions

@@ -21,7 +21,7 @@ pub table_of-requires-clause-judged : goal.table_of-requires-clause-judged
 table_of-requires-clause-judged c =
     let paths = c.args.paths.now in
     let questions = c.in_ok-questions.questions in
-    let verdicts = c.in_ok-judged.judged.verdicts.items in
+    let verdicts = c.in_ok-judged.judged.values.items in
     let numbers = c.in_ok-judged.judged.numbers.items in
     subst (λ (l : List Placed). ArePairsJudged paths l questions.judged.items verdicts numbers) c.deref.ensures.value
     (subst (λ (l : List PlacePair). ArePairsJudged paths c.deref.result.now l verdicts numbers) c.deref-2.ensures.value c.in_ok-judged.ensures)

@@ -1,10 +1,11 @@
-use Rattle.std.proofs.Common.{◌∙◌, ◌++◌, ◌<◌, List, Vec, Global, length, vec_len, vec_capacity, ap, sym, subst, arith}
+use Rattle.std.proofs.Common.{◌∙◌, ◌++◌, ◌<◌, List, Vec, Global, length, vec_len, vec_capacity, ap, sym, subst, arith, drop, refl}
 use Rattle.std.specs.Prelude.{All}
+use Rattle.std.proofs.lemmas.List.{drop_all}
 use Rattle.std.proofs.lemmas.List.Elements.{All-push}
 use Rattle.prog_paths.specs.Questions.{asked_by}
 use Rattle.conflict_pairs.specs.declared.pairing.PlacePair.{PlacePair}
 use Rattle.conflict_pairs.specs.Pairing.{HasPlaces, question_at, questions_at}
-use Rattle.conflict_pairs.proofs.Entries.{asked-end, asked-yes, asked-no}
+use Rattle.conflict_pairs.proofs.Entries.{nothing-left, asked-yes, asked-no}
 use Rattle.conflict_pairs.proofs.Paired.{given-pushed, number-fits, number-is, number-small, number-there, pair-question}
 use Rattle.conflict_pairs.proofs.listing.push_questions.Goals as goal
 use Rattle.conflict_pairs.proofs.listing.push_questions.Goals.{then-asks, else-asks}
@@ -63,4 +64,5 @@ loop-second-preserved c =
 
 pub returns-clause-questions : goal.returns-clause-questions
 returns-clause-questions c =
-    asked-end (questions_at c.args.places.now c.loop-second.pairs.items) (questions_at c.args.places.now c.args.pairs.now.items ++ asked_by c.args.first.now c.args.seconds.now) c.args.first.now c.loop-second.second-index c.args.seconds.now (omega arith) c.loop-second.invariant.questions
+    nothing-left (asked_by c.args.first.now) (questions_at c.args.places.now c.loop-second.pairs.items) (questions_at c.args.places.now c.args.pairs.now.items ++ asked_by c.args.first.now c.args.seconds.now) (drop c.loop-second.second-index c.args.seconds.now) refl
+    (drop_all c.loop-second.second-index c.args.seconds.now (omega arith)) c.loop-second.invariant.questions

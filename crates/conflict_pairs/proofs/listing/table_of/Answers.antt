@@ -5,7 +5,8 @@ use Rattle.std.proofs.lemmas.List.{length-map}
 use Rattle.prog_check.specs.declared.path.Path.{Path}
 use Rattle.prog_paths.specs.declared.accesses.questions.Question.{Question}
 use Rattle.conflict_pairs.specs.declared.listing.Questions.{Questions}
-use Rattle.conflict_pairs.specs.declared.sharing.PairVerdicts.{PairVerdicts}
+use Rattle.conflict_pairs.specs.declared.interning.Interned.{Interned}
+use Rattle.conflict_pairs.specs.declared.verdicts.Verdict.{Verdict}
 use Rattle.conflict_pairs.specs.Interning.{IsServed}
 use Rattle.conflict_pairs.specs.Alike.{IsAsked, IsJudgedAt}
 use Rattle.conflict_pairs.specs.Pairing.{AreQuestionsOf, question_at, questions_at}
@@ -17,21 +18,21 @@ use Rattle.conflict_pairs.proofs.Numbered.{all-through, judged-within, numbers-w
 use Rattle.conflict_pairs.proofs.listing.table_of.Goals as goal
 
 -- the numbers of the verdicts of all questions
-abbrev through : Questions → PairVerdicts → List ℕ
+abbrev through : Questions → Interned Verdict → List ℕ
 through qs judged = map (λ n. get_or judged.numbers.items n 0) qs.numbers.items
 
-module _ (paths : List Path) (qs : Questions) (judged : PairVerdicts) (listed : AreQuestionsOf paths qs) (on : ArePairsJudged paths qs.places.items qs.judged.items judged.verdicts.items judged.numbers.items) where
-  answered : AllZip (IsServed (IsJudgedAt paths) judged.verdicts.items) (questions_at qs.places.items qs.judged.items) judged.numbers.items
-  answered = on-questions paths qs.places.items qs.judged.items judged.verdicts.items judged.numbers.items on.served
+module _ (paths : List Path) (qs : Questions) (judged : Interned Verdict) (listed : AreQuestionsOf paths qs) (on : ArePairsJudged paths qs.places.items qs.judged.items judged.values.items judged.numbers.items) where
+  answered : AllZip (IsServed (IsJudgedAt paths) judged.values.items) (questions_at qs.places.items qs.judged.items) judged.numbers.items
+  answered = on-questions paths qs.places.items qs.judged.items judged.values.items judged.numbers.items on.served
 
   all-within : All (λ n. n < length judged.numbers.items) qs.numbers.items
   all-within =
-      judged-within paths judged.verdicts.items judged.numbers.items (questions_at qs.places.items qs.judged.items) answered (questions_at qs.places.items qs.pairs.items) qs.numbers.items listed.listed.shown.served
+      judged-within paths judged.values.items judged.numbers.items (questions_at qs.places.items qs.judged.items) answered (questions_at qs.places.items qs.pairs.items) qs.numbers.items listed.listed.shown.served
 
-  all-served : (ns : List ℕ) → ns ≡ through qs judged → AllZip (IsServed (IsJudgedAt paths) judged.verdicts.items) (questions_at qs.places.items qs.pairs.items) ns
+  all-served : (ns : List ℕ) → ns ≡ through qs judged → AllZip (IsServed (IsJudgedAt paths) judged.values.items) (questions_at qs.places.items qs.pairs.items) ns
   all-served ns is =
-      subst (λ (l : List ℕ). AllZip (IsServed (IsJudgedAt paths) judged.verdicts.items) (questions_at qs.places.items qs.pairs.items) l) (sym is)
-      (all-through paths judged.verdicts.items judged.numbers.items (questions_at qs.places.items qs.judged.items) answered (questions_at qs.places.items qs.pairs.items) qs.numbers.items listed.listed.shown.served)
+      subst (λ (l : List ℕ). AllZip (IsServed (IsJudgedAt paths) judged.values.items) (questions_at qs.places.items qs.pairs.items) l) (sym is)
+      (all-through paths judged.values.items judged.numbers.items (questions_at qs.places.items qs.judged.items) answered (questions_at qs.places.items qs.pairs.items) qs.numbers.items listed.listed.shown.served)
 
 pub take_through-requires : goal.take_through-requires
 take_through-requires c =
@@ -47,7 +48,7 @@ of-requires-clause-one_each c =
     let all = questions_at questions.places.items questions.pairs.items in
     let is = c.take_through.ensures ∙ (λ i. map (λ n. get_or (c.deref.ensures.value i) n 0) questions.numbers.items) in
     sym (length-map questions.pairs.items (question_at questions.places.items))
-    ∙ AllZip-lengths (IsServed (IsJudgedAt paths) c.args.judged.verdicts.items) all numbers (all-served paths questions c.args.judged c.requires.listed c.requires.judged numbers is)
+    ∙ AllZip-lengths (IsServed (IsJudgedAt paths) c.args.judged.values.items) all numbers (all-served paths questions c.args.judged c.requires.listed c.requires.judged numbers is)
 
 pub of-requires-clause-placed : goal.of-requires-clause-placed
 of-requires-clause-placed c = c.requires.listed.within
@@ -58,7 +59,7 @@ of-requires-clause-within c =
     let questions = c.args.questions in
     let numbers = c.take_through.new.numbers.items in
     let is = c.take_through.ensures ∙ (λ i. map (λ n. get_or (c.deref.ensures.value i) n 0) questions.numbers.items) in
-    numbers-within paths c.args.judged.verdicts.items (questions_at questions.places.items questions.pairs.items) numbers (all-served paths questions c.args.judged c.requires.listed c.requires.judged numbers is)
+    numbers-within paths c.args.judged.values.items (questions_at questions.places.items questions.pairs.items) numbers (all-served paths questions c.args.judged c.requires.listed c.requires.judged numbers is)
 
 pub returns : goal.returns
 returns c =
@@ -68,6 +69,6 @@ returns c =
     let listed = c.requires.listed.listed in
     let all = questions_at questions.places.items questions.pairs.items in
     let is = c.take_through.ensures ∙ (λ i. map (λ n. get_or (c.deref.ensures.value i) n 0) questions.numbers.items) in
-    StandsFor-from paths c.args.judged.verdicts.items c.requires.single c.requires.judged.sound c.of.result all numbers
+    StandsFor-from paths c.args.judged.values.items c.requires.single c.requires.judged.sound c.of.result all numbers
     (subst (λ (l : List Question). All (IsAsked paths) l) (sym listed.all) (all_asked paths))
     (all-served paths questions c.args.judged c.requires.listed c.requires.judged numbers is) c.of.ensures.nodes c.of.ensures.verdicts c.of.ensures.entries listed.all

@@ -1,6 +1,6 @@
 use Rattle.std.proofs.Common.{ℕ, ◌<◌, ◌≤◌, length, get_or, sym, subst, ◌∙◌, arith}
 use Rattle.std.proofs.lemmas.List.{get_or_read}
-use Rattle.conflict_pairs.proofs.SharedVerdicts.{taken-none, taken-more, taken-all}
+use Rattle.conflict_pairs.proofs.Taking.{taken-none, taken-more, taken-all}
 use Rattle.conflict_pairs.proofs.listing.take_through.Goals as goal
 
 pub number_at-requires : goal.number_at-requires

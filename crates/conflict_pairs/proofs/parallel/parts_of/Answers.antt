@@ -6,7 +6,8 @@ use denote.Param.Send.{sendable}
 use Rattle.rayon.specs.Lists.{chunks_of}
 use Rattle.rayon.proofs.ToStd.{slice-AllZip}
 use Rattle.conflict_pairs.specs.declared.pairing.PlacePair.{PlacePair}
-use Rattle.conflict_pairs.specs.declared.sharing.PairVerdicts.{PairVerdicts}
+use Rattle.conflict_pairs.specs.declared.interning.Interned.{Interned}
+use Rattle.conflict_pairs.specs.declared.verdicts.Verdict.{Verdict}
 use Rattle.conflict_pairs.specs.Pairing.{IsAskedBetween}
 use Rattle.conflict_pairs.specs.Sharing.{ArePairsJudged}
 use Rattle.conflict_pairs.proofs.Collecting.{gathered}
@@ -46,5 +47,5 @@ returns g c =
     let h = c.in_ok-collect.ensures in
     let chain = rw (c.map.ensures.base, c.map.ensures.f, c.par_chunks.ensures.slice, c.par_chunks.ensures.size) at h.1 in
     IfOk-weaker c.in_ok-collect.field-0 _ _ (λ v z. of_whole paths places pairs size v.items z)
-    (gathered _ (λ (chunk : List PlacePair) (part : PairVerdicts). ArePairsJudged paths places chunk part.verdicts.items part.numbers.items) (λ v. v.items) _ (chunks_of (max size 1) pairs) h.0
-    (slice-AllZip chain.0 (chunks_of (max size 1) pairs) chain.1 (λ chunk x. IfOk x (λ (part : PairVerdicts). ArePairsJudged paths places chunk part.verdicts.items part.numbers.items)) h.0 chain.2) h.2)
+    (gathered _ (λ (chunk : List PlacePair) (part : Interned Verdict). ArePairsJudged paths places chunk part.values.items part.numbers.items) (λ v. v.items) _ (chunks_of (max size 1) pairs) h.0
+    (slice-AllZip chain.0 (chunks_of (max size 1) pairs) chain.1 (λ chunk x. IfOk x (λ (part : Interned Verdict). ArePairsJudged paths places chunk part.values.items part.numbers.items)) h.0 chain.2) h.2)

@@ -1,5 +1,5 @@
 use Rattle.std.proofs.Common.{ℕ, ◌+◌, ◌++◌, List, map, take_all, append-nil, sym, ap, ◌∙◌, arith}
-use Rattle.conflict_pairs.proofs.SharedVerdicts.{mapped-more}
+use Rattle.conflict_pairs.proofs.Taking.{mapped-more}
 use Rattle.conflict_pairs.proofs.parallel.push_numbers.Goals as goal
 
 pub loop-number-init : goal.loop-number-init

@@ -3,7 +3,8 @@ use Rattle.std.specs.Prelude.{OnOk, IfErr}
 use Rattle.std.proofs.lemmas.Result.{on_ok_weaker, IfErr-weaker}
 use Rattle.order_facts.specs.Square.{Joins}
 use Rattle.robust_cert.specs.Refused.{IsFirstFault}
-use Rattle.robust_cert.specs.Levels.{level_in, RiseOver, IsLevelFault}
+use Rattle.robust_cert.specs.Accepted.{level_in}
+use Rattle.robust_cert.specs.Levels.{RiseOver, IsLevelFault}
 use Rattle.robust_cert.proofs.Verdicts.{accepted-from_rise, first-from_levels}
 use Rattle.robust_cert.proofs.checking.checker.check_left.Goals as goal
 
