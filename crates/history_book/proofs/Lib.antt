@@ -14,6 +14,7 @@ pub mod FoundLaws
 pub mod HistoryLaws
 pub mod HorizonLaws
 pub mod InTurn
+pub mod LateLaws
 pub mod LeastFree
 pub mod NearbyLaws
 pub mod NumberLists

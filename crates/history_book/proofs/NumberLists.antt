@@ -212,8 +212,8 @@ more-no old keys waits numbers i inside some is n = is n ∙ rw (one-more number
     go (inr e) (inr o) (inr t) = rw (o, t, e.0) refl
 
 -- what a call wrote into the whole of a list
-pub written : (len : ℕ) (new old : List ℕ) → len ≡ length old → length new ≡ length old → take len (new ++ drop (length new) old) ≡ new
-written len new old e h = rw (e, ← h) (take-append-le (length new) new (drop (length new) old) (omega arith) ∙ take_all (length new) new (omega arith))
+pub written : {X : Type 0} (len : ℕ) (new old : List X) → len ≡ length old → length new ≡ length old → take len (new ++ drop (length new) old) ≡ new
+written {X} len new old e h = rw (e, ← h) (take-append-le (length new) new (drop (length new) old) (omega arith) ∙ take_all (length new) new (omega arith))
 
 pub inside-nonzero : (xs : List ℕ) (k : ℕ) → get_or xs k 0 ≢ 0 → k < length xs
 inside-nonzero xs k h = go (cases_lt k (length xs))

@@ -5,6 +5,7 @@ pub mod Dependencies
 pub mod DependsBy
 pub mod History
 pub mod Horizons
+pub mod Late
 pub mod Nearby
 pub mod Orders
 pub mod Placing

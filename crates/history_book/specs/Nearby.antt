@@ -36,6 +36,10 @@ IsFirstFree traces marks n =
 abbrev pub IsHolder : List TraceView → (i n : ℕ) → Type 0
 IsHolder traces i n = IsUpTo (length traces) i × (trace_depends traces i n ≡ true)
 
+-- the first is a commit without a mark that has to stand before the second
+abbrev pub HoldsBack : List TraceView → List Bool → (i n : ℕ) → Type 0
+HoldsBack traces marks i n = (is_marked marks i ≡ false) × IsHolder traces i n
+
 -- each lesser commit that has to stand before this one has a mark
 abbrev pub IsTestedBelow : List TraceView → List Bool → (n bound : ℕ) → Type 0
 IsTestedBelow traces marks n bound = (i : ℕ) → IsHolder traces i n → i < bound → is_marked marks i ≡ true

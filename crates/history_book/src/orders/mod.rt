@@ -3,6 +3,7 @@
 pub mod fits;
 pub mod horizons;
 pub mod kept_region;
+pub mod late;
 pub mod nearby;
 pub mod numbers;
 pub mod order;

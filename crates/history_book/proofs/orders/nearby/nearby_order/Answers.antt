@@ -24,7 +24,7 @@ first_unplaced-from-requires c =
     let number = c.in-Some.number in
     let long = c.loop-place.invariant.long in
     let last = c.in-Some.ensures.within.1 in
-    subst (λ (bs : List Bool). IsMarkedBelow bs c.loop-place.from) (sym c.deref-in-loop-place-2.ensures.value)
+    subst (λ (bs : List Bool). IsMarkedBelow bs c.loop-place.from) (sym c.deref-in-loop-place-3.ensures.value)
     (below-set marks number c.loop-place.from (omega arith) c.loop-place.invariant.below)
 
 pub loop-place-preserved : goal.loop-place-preserved
@@ -36,15 +36,15 @@ loop-place-preserved c =
     let i = c.loop-place.invariant in
     let long = i.long in
     let last = c.in-Some.ensures.within.1 in
-    let first = c.in-Some.ensures.first order (λ n. ap (λ (bs : List Bool). is_marked bs n) c.deref-in-loop-place.ensures.value ∙ i.marked n) in
+    let first = c.in-Some.ensures.first order (λ n. ap (λ (bs : List Bool). is_marked bs n) c.deref-in-loop-place-2.ensures.value ∙ i.marked n) in
     let holders = c.first_free.new.holders in
     let same : length holders ≡ length c.loop-place.holders.items = c.in-Some.ensures.holders.long ∙ sym i.holders.long in
     record {
       long = length-set marks number true ∙ i.long;
       marked = λ n. rw c.in_ok-push.ensures.items (marked-more marks order number (omega arith) i.marked n);
-      below = subst (λ (bs : List Bool). IsMarkedBelow bs c.first_unplaced-from.result) c.deref-in-loop-place-2.ensures.value c.first_unplaced-from.ensures;
+      below = subst (λ (bs : List Bool). IsMarkedBelow bs c.first_unplaced-from.result) c.deref-in-loop-place-3.ensures.value c.first_unplaced-from.ensures;
       holders = rw (written c.loop-place.holders.len holders c.loop-place.holders.items (omega arith) same)
-          (holders-place traces marks holders number (omega arith) (subst (λ (bs : List Bool). AreHolders traces bs holders) c.deref-in-loop-place.ensures.value c.in-Some.ensures.holders));
+          (holders-place traces marks holders number (omega arith) (subst (λ (bs : List Bool). AreHolders traces bs holders) c.deref-in-loop-place-2.ensures.value c.in-Some.ensures.holders));
       order = λ k e. rw c.in_ok-push.ensures.items (next-order traces order number c.loop-place._place first i.order k e);
     }
 

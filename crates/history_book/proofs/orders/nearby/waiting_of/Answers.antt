@@ -1,19 +1,54 @@
-use Rattle.std.proofs.Common.{sym, ◌∙◌, arith}
-use Rattle.std.proofs.lemmas.Bool.{false≢true}
+use Rattle.std.proofs.Common.{◌+◌, ◌∙◌, sym, arith}
+use Rattle.std.proofs.lemmas.Bool.{false≢true, true_from_ne_false}
+use Rattle.history_book.specs.Nearby.{is_marked}
+use Rattle.history_book.proofs.LateLaws.{first_after, tested_first}
 use Rattle.history_book.proofs.NearbyLaws.{over-tested, tested-next}
 use Rattle.history_book.proofs.orders.nearby.waiting_of.Goals as goal
 
-pub loop-other-preserved-then-placed-other : goal.loop-other-preserved-then-placed-other
-loop-other-preserved-then-placed-other c =
-    tested-next c.args.traces.now c.args.placed.now c.args.number c.loop-other.other c.loop-other.invariant
-    (λ holder. c.if-placed-other.true)
+pub loop-other-init : goal.loop-other-init
+loop-other-init c =
+    let traces = c.args.traces.now in
+    let placed = c.args.placed.now in
+    let next = c.args.next_late.now in
+    let number = c.args.number in
+    let from = c.args.from in
+    let first = c.requires.from.0 in
+    let after = first_after traces next number from c.requires.late c.requires.from.1 in
+    rw c.first_tested-other.ensures
+    record {
+      some = omega (arith, first, after);
+      tested = tested_first traces placed next number from c.requires.late c.requires.number.0 c.requires.tested;
+    }
+
+pub loop-other-smaller : goal.loop-other-smaller
+loop-other-smaller c =
+    let traces = c.args.traces.now in
+    let next = c.args.next_late.now in
+    let number = c.args.number in
+    let other = c.loop-other.other in
+    let within = c.requires.horizons.within number in
+    let test = c.loop-other-test.true in
+    let after = first_after traces next number (other + 1) c.requires.late (omega (arith, within, test)) in
+    rw c.first_tested-other-in-loop-other.ensures (omega (arith, test, after))
 
 pub loop-other-preserved : goal.loop-other-preserved
 loop-other-preserved c =
-    tested-next c.args.traces.now c.args.placed.now c.args.number c.loop-other.other c.loop-other.invariant
-    (λ holder. absurd (false≢true (sym c.if-depends.false ∙ c.depends.ensures ∙ holder.1)))
+    let traces = c.args.traces.now in
+    let placed = c.args.placed.now in
+    let next = c.args.next_late.now in
+    let number = c.args.number in
+    let other = c.loop-other.other in
+    let within = c.requires.horizons.within number in
+    let after = first_after traces next number (other + 1) c.requires.late (omega (arith, within, c.loop-other-test.true)) in
+    let tested = tested-next traces placed number other c.loop-other.invariant.tested (λ holder.
+    true_from_ne_false (is_marked placed other) (λ unmarked. false≢true (sym c.if-holds.false ∙ c.in-Some.ensures.1 (unmarked, holder)))) in
+    rw c.first_tested-other-in-loop-other.ensures
+    record {
+      some = omega (arith, after);
+      tested = tested_first traces placed next number (other + 1) c.requires.late c.requires.number.0 tested;
+    }
 
 pub returns : goal.returns
 returns c =
     over-tested c.args.traces.now c.args.horizons.now c.args.placed.now c.args.number c.loop-other.other
-    c.requires.horizons c.requires.number (omega (arith, c.loop-other-test.false)) c.loop-other.invariant
+    c.requires.horizons c.requires.number (omega (arith, c.loop-other-test.false)) c.loop-other.invariant.tested

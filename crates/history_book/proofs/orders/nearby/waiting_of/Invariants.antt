@@ -1,5 +1,12 @@
+use Rattle.std.proofs.Common.{◌≤◌, ◌+◌, ◌-◌, slice_index}
 use Rattle.history_book.specs.Nearby.{IsTestedBelow}
 use Rattle.history_book.proofs.orders.nearby.waiting_of.Given as goal
 
 abbrev pub invariant-loop-other : goal.invariant-loop-other
-invariant-loop-other l = IsTestedBelow l.traces l.placed l.number l.other
+invariant-loop-other l = record {
+  some : 1 ≤ l.other;
+  tested : IsTestedBelow l.traces l.placed l.number l.other;
+}
+
+abbrev pub decreases-loop-other : goal.decreases-loop-other
+decreases-loop-other l = slice_index l.horizons l.number + 1 - l.other
