@@ -20,15 +20,16 @@ mod MarkLaws
 pub mod MissedLaws
 pub mod NodeLaws
 mod NumberLaws
-pub mod OutcomeLaws
 pub mod OutputLaws
 pub mod PlaceLaws
 mod PrintedVectors
 mod RecordVectors
 pub mod RowLaws
 pub mod RunLaws
+pub mod RunsUnderWay
 mod SayingLemmas
 mod ScriptVectors
+pub mod SinkLaws
 pub mod SkewVectors
 mod TextLemmas
 pub mod ToldLaws

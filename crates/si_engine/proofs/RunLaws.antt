@@ -28,8 +28,15 @@ use Rattle.si_engine.specs.declared.input.part_fault.PartFault.TheVariants as fa
 use Rattle.si_engine.specs.declared.input.source.InputFault.TheVariants as input_fault
 
 module _ (set : DraftTree) (opening : TableState) (event : Event) (events : List Event) (m next : Machine) (r : Reply) (step : (r, next) ≡ machine_step set opening event m) where
-  pub first_line : event_lines set opening (event ∷ events) m ≡ reply_line set.tables event r ∷ event_lines set opening events next
+  first_line : event_lines set opening (event ∷ events) m ≡ reply_line set.tables event r ∷ event_lines set opening events next
   first_line = sym (ap (λ (s : Reply × Machine). reply_line set.tables event s.0 ∷ event_lines set opening events s.1) step)
+
+  -- the lines of the events that are left, of which the first is made
+  pub next_lines : (all made : List (List ℕ)) → all ≡ made ++ event_lines set opening (event ∷ events) m → all ≡ (made ++ reply_line set.tables event r ∷ []) ++ event_lines set opening events next
+  next_lines all made is =
+      is
+      ∙ (ap (λ lines. made ++ lines) first_line
+      ∙ sym (append_assoc made (reply_line set.tables event r ∷ []) (event_lines set opening events next)))
 
   pub first_after : machine_after set opening (event ∷ events) m ≡ machine_after set opening events next
   first_after = sym (ap (λ (s : Reply × Machine). machine_after set opening events s.1) step)

@@ -4,11 +4,12 @@ use Rattle.std.specs.List.{concat, zip}
 use Rattle.prog_tree.specs.declared.table.TableDecl.{TableDecl}
 use Rattle.prog_tree.specs.Syntax.{DraftTree}
 use Rattle.prog_tree.specs.Table.{TableState}
+use Rattle.prog_check.specs.Paths.{paths_of}
+use Rattle.prog_paths.specs.StaticGraph.{IsDangerous}
 use Rattle.history_book.specs.History.{Instance, state_after}
 use Rattle.si_engine.specs.declared.event.Event.{Event}
 use Rattle.si_engine.specs.declared.output.finding.Serializability.{Serializability}
 use Rattle.si_engine.specs.declared.output.finding.Serializability.TheVariants.{Order}
-use Rattle.si_engine.specs.declared.robust.run.Outcome.{Outcome}
 use Rattle.si_engine.specs.declared.input.script.Script.{Script}
 use Rattle.si_engine.specs.declared.input.part_fault.PartFault.{PartFault}
 use Rattle.si_engine.specs.declared.input.part_fault.PartFault.TheVariants as fault
@@ -46,11 +47,6 @@ abbrev pub run_lines : DraftTree → Script → List (List ℕ)
 run_lines set script =
     event_lines set script.rows script.events new_machine ++ end_lines set script.rows (history_of_run set script)
 
--- the same of what events came to
-abbrev pub outcome_lines : DraftTree → List Event → Outcome → List (List ℕ)
-outcome_lines set events o =
-    exchange_lines set.tables (zip events o.replies) ++ row_lines set o.table
-
 -- lines were added to a text
 abbrev pub AddsLines : List (List ℕ) → List ℕ → List ℕ → Type 0
 AddsLines lines before after = after ≡ before ++ concat lines
@@ -71,6 +67,22 @@ abbrev pub AddsRun : DraftTree → Script → Serializability → List ℕ → L
 AddsRun set script finding before after =
     (last : List ℕ) × IsLastLine set script.rows (history_of_run set script) finding last
     × AddsLines (run_lines set script ++ last ∷ []) before after
+
+-- lines were added to a text: all of them, or some first ones, behind which memory ran out
+abbrev pub MakesLines : List (List ℕ) → (before after : List ℕ) → Result (Unit {0}) PartFault → Type 0
+MakesLines lines before after (Ok done) = AddsLines lines before after
+MakesLines lines before after (Err f) = (f ≡ fault.Input input_fault.Memory) × AddsFirst lines before after
+
+-- on a set without a dangerous structure, a run finds an order
+abbrev pub IsOrderIfSafe : DraftTree → Serializability → Type 0
+IsOrderIfSafe set finding = ¬ IsDangerous (paths_of set) → finding ≡ Order
+
+-- the lines of a script were added to a text: all of them, and the last line; or some first lines before that, behind
+-- which memory ran out
+abbrev pub MakesRun : DraftTree → Script → (before after : List ℕ) → Result Serializability PartFault → Type 0
+MakesRun set script before after (Ok finding) = AddsRun set script finding before after × IsOrderIfSafe set finding
+MakesRun set script before after (Err f) =
+    (f ≡ fault.Input input_fault.Memory) × AddsFirst (run_lines set script) before after
 
 -- what a run of these bytes writes, and how it ends
 pub data IsRunOf (set : DraftTree) (part : List ℕ) : List ℕ → Result Serializability PartFault → Type 0 where
@@ -94,6 +106,11 @@ abbrev pub IsRunReply :
     DraftTree → (left : Option (List ℕ)) → (failed : Bool) → List ℕ → Result Serializability PartFault → Type 0
 IsRunReply set left false written ended = ForInput left (λ part. IsRunOf set part written ended)
 IsRunReply set left true written ended = IsUnreadRun written ended
+
+-- and where it ends well, the set being without a dangerous structure, it ends in an order
+abbrev pub IsSafeReply :
+    DraftTree → (left : Option (List ℕ)) → (failed : Bool) → List ℕ → Result Serializability PartFault → Type 0
+IsSafeReply set left failed written ended = IsRunReply set left failed written ended × IfOk ended (IsOrderIfSafe set)
 
 -- and that of a run on a robust set, which ends in an order
 abbrev pub IsOrderedReply :

@@ -20,6 +20,18 @@ WritesOr {E = E} lost P true old new ended =
 abbrev pub IsJust : {E : Type 0} → List ℕ → E → List ℕ → E → Type 0
 IsJust bytes end written ended = (written ≡ bytes) × (ended ≡ end)
 
+-- a text is under way: some first bytes of it were written, and the rest waits
+abbrev pub IsUnderWay : (waiting : List ℕ) → Option (List ℕ) → Option (List ℕ) → List ℕ → Type 0
+IsUnderWay waiting old new text = (sent : List ℕ) × (text ≡ sent ++ waiting) × Appends old new sent
+
+-- a text with such an end is under way; a sink that failed has some first bytes of such a text
+abbrev pub WritesSoFar :
+    {E : Type 0} → (List ℕ → E → Type 0) → (waiting : List ℕ) → (failed : Bool) → Option (List ℕ) → Option (List ℕ) →
+    E → Type 0
+WritesSoFar P waiting false old new ended = (text : List ℕ) × P text ended × IsUnderWay waiting old new text
+WritesSoFar {E = E} P waiting true old new ended =
+    (text : List ℕ) × (meant : E) × P text meant × AppendsFront old new text
+
 -- a text still begins as it did
 unfoldable pub Keeps : List ℕ → List ℕ → Type 0
 Keeps before after = (rest : List ℕ) × (after ≡ before ++ rest)

@@ -38,7 +38,7 @@ pub use robust::laws::{
     dependencies_are_static_edges, grow_tables_gain_each_row_once, instances_follow_nodes,
     safe_sets_have_no_cycle, states_have_i64_rows,
 };
-pub use robust::run::{Outcome, order_of, run_robust, run_robust_before};
+pub use robust::run::{Outcome, order_of, run_robust};
 pub use robust::script::run_robust_script_before;
 pub use run::{run_script, run_script_before};
 pub use witness::{NoWitness, Witness};

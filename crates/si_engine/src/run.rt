@@ -1,12 +1,13 @@
 //! Runs of scripts: from the bytes of a script to the lines of its replies, its rows and the end.
-ghost use Rattle.std.specs.Prelude.{◌≡◌, ◌≤◌, ◌+◌, [], false, true, string_bytes, IfOk, OnOk};
-ghost use Rattle.std.specs.Prelude.{OnErr};
+ghost use Rattle.std.specs.Prelude.{◌≡◌, ◌≤◌, ◌+◌, [], string_bytes, OnOk};
 ghost use Rattle.prog_tree.specs.Tree.{draft_tree};
+ghost use Rattle.prog_check.specs.Paths.{paths_of};
+ghost use Rattle.prog_paths.specs.StaticGraph.{IsDangerous};
 ghost use Rattle.si_engine.specs.Machine.{machine_after};
-ghost use Rattle.si_engine.specs.Sources.{ForInput};
-ghost use Rattle.si_engine.specs.Runs.{event_lines, run_lines, AddsLines, AddsFirst, AddsRun};
-ghost use Rattle.si_engine.specs.Runs.{IsRunOf, IsScriptRun, IsUnreadRun};
+ghost use Rattle.si_engine.specs.Runs.{event_lines, MakesLines, MakesRun, IsSafeReply};
+ghost use Rattle.si_engine.specs.Runs.{IsScriptRun, IsRobustScriptRun};
 ghost use Rattle.si_engine.specs.View.{StaysOver};
+ghost use Rattle.si_engine.specs.Writing.{WritesSoFar};
 
 use crate::engine::Engine;
 use crate::event::Event;
@@ -16,32 +17,38 @@ use crate::input::source::Source;
 use crate::limits::MAX_READS;
 use crate::output::finding::{Serializability, push_findings_before};
 use crate::output::printed::push_reply_line;
-use crate::output::sink::{Sink, write_or};
+use crate::output::sink::{Sink, write_or, write_when_long};
+use crate::robust::run::read_history;
 use crate::witness::{NoWitness, Witness, let_go};
 use prog_check::ProgramSet;
 use prog_tree::Draft;
-use std::alloc::{AllocError, Global};
+use std::alloc::Global;
 
-// Hands the events to the engine, and adds the line of each reply.
-fn run_events<W: Witness>(
+// Hands the events to the engine, and writes the line of each reply, many lines at a time. The
+// last ones wait.
+fn run_events<K: Sink, W: Witness>(
     engine: &mut Engine<'_>,
     set: &Draft,
     events: &[Event],
     out: &mut String,
+    sink: &mut K,
     witness: &mut W,
-) -> Result<(), AllocError>
+) -> Result<(), PartFault>
     requires { engine.old.set ≡ set.now }
     ensures over { StaysOver engine.old engine.new }
     ensures after { OnOk result (engine.new.machine ≡ machine_after
         (draft_tree set.now) engine.old.opening events.now engine.old.machine) }
-    ensures ok { OnOk result (AddsLines
-        (event_lines (draft_tree set.now) engine.old.opening events.now engine.old.machine)
-        (string_bytes out.old) (string_bytes out.new)) }
-    ensures err { OnErr result (AddsFirst
-        (event_lines (draft_tree set.now) engine.old.opening events.now engine.old.machine)
-        (string_bytes out.old) (string_bytes out.new)) }
+    ensures lines { WritesSoFar
+        (MakesLines (event_lines (draft_tree set.now) engine.old.opening events.now
+        engine.old.machine) (string_bytes out.old))
+        (string_bytes out.new) (K.has_failed sink.new) (K.taken sink.old) (K.taken sink.new)
+        result }
 {
+    if sink.failed() {
+        return Err(PartFault::WriteFault);
+    }
     for event in events {
+        write_when_long(out, sink)?;
         let reply = engine.apply(event)?;
         witness.answered(event, &reply, engine.book());
         push_reply_line(out, &set.tables, event, &reply)?;
@@ -49,48 +56,51 @@ fn run_events<W: Witness>(
     Ok(())
 }
 
-// Adds the lines of a script, and the last line. Where memory runs out, some first lines before
-// that were added.
-fn push_lines<W: Witness>(
+// Runs a script: makes its lines, and the last line. Where memory runs out, some first lines before
+// that were made.
+fn make_lines<K: Sink, W: Witness>(
     alloc: Global,
     set: &ProgramSet,
     script: Script,
     out: &mut String,
+    sink: &mut K,
     witness: &mut W,
-) -> Result<Serializability, AllocError>
-    ensures ok { IfOk result (λ finding. AddsRun (draft_tree set.now) script finding
-        (string_bytes out.old) (string_bytes out.new)) }
-    ensures err { OnErr result (AddsFirst (run_lines (draft_tree set.now) script)
-        (string_bytes out.old) (string_bytes out.new)) }
+) -> Result<Serializability, PartFault>
+    ensures { WritesSoFar (MakesRun (draft_tree set.now) script (string_bytes out.old))
+        (string_bytes out.new) (K.has_failed sink.new) (K.taken sink.old) (K.taken sink.new)
+        result }
 {
     let Script { rows, events } = script;
     let draft = set.draft();
     let mut engine = Engine::open(alloc, set, rows)?;
-    run_events(&mut engine, draft, events.as_slice(), out, witness)?;
-    let ended = push_findings_before(engine.book(), out, witness);
+    run_events(&mut engine, draft, events.as_slice(), out, sink, witness)?;
+    let book = engine.book();
+    read_history(book);
+    let ended = push_findings_before(book, out, witness);
     let last = witness.is_last();
     let_go(engine, last);
     let_go(events, last);
-    ended
+    Ok(ended?)
 }
 
-// Reads all of a source as a script, runs it, and adds its lines.
-fn run_source<S: Source, W: Witness>(
+// Reads all of a source as a script, runs it, and makes its lines.
+fn run_source<S: Source, K: Sink, W: Witness>(
     alloc: Global,
     set: &ProgramSet,
     source: &mut S,
     out: &mut String,
+    sink: &mut K,
     witness: &mut W,
 ) -> Result<Serializability, PartFault>
     requires { string_bytes out.old ≡ [] }
-    ensures run { S.has_failed source.new ≡ false
-        → ForInput (S.left source.old) (λ part.
-        IsRunOf (draft_tree set.now) part (string_bytes out.new) result) }
-    ensures unread { S.has_failed source.new ≡ true → IsUnreadRun (string_bytes out.new) result }
+    ensures run { WritesSoFar
+        (IsSafeReply (draft_tree set.now) (S.left source.old) (S.has_failed source.new))
+        (string_bytes out.new) (K.has_failed sink.new) (K.taken sink.old) (K.taken sink.new)
+        result }
     ensures reads { S.pulls source.new ≤ S.pulls source.old + MAX_READS }
 {
     let script = read_script(alloc, set, source)?;
-    Ok(push_lines(alloc, set, script, out, witness)?)
+    make_lines(alloc, set, script, out, sink, witness)
 }
 
 /// As `run_script`, before a witness, which is told each reply and the cycle.
@@ -103,10 +113,16 @@ pub fn run_script_before<S: Source, K: Sink, W: Witness>(
 ) -> Result<Serializability, PartFault>
     ensures run { IsScriptRun (draft_tree set.now) (S.left source.old) (S.has_failed source.new)
         (K.has_failed sink.new) (K.taken sink.old) (K.taken sink.new) result }
+    ensures safe { ¬ IsDangerous (paths_of (draft_tree set.now)) → IsRobustScriptRun
+        (draft_tree set.now) (S.left source.old) (S.has_failed source.new)
+        (K.has_failed sink.new) (K.taken sink.old) (K.taken sink.new) result }
     ensures reads { S.pulls source.new ≤ S.pulls source.old + MAX_READS }
 {
     let mut lines = String::new(alloc);
-    let ended = run_source(alloc, set, source, &mut lines, witness);
+    let ended = run_source(alloc, set, source, &mut lines, sink, witness);
+    if sink.failed() {
+        return Err(PartFault::WriteFault);
+    }
     write_or(sink, lines.as_bytes(), ended, Err(PartFault::WriteFault))
 }
 

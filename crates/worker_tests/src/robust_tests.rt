@@ -5,10 +5,10 @@ use history_book::{Book, HistoryRow};
 use prog_tree::{Rows, Sequence};
 use robust_cert::RobustSet;
 use si_engine::{
-    Event, NoWitness, Outcome, concurrent_dependencies_are_vulnerable, cycles_are_dangerous,
+    Event, Outcome, concurrent_dependencies_are_vulnerable, cycles_are_dangerous,
     cycles_end_in_two_missed_changes, dependencies_are_static_edges,
     grow_tables_gain_each_row_once, instances_follow_nodes, order_of, run_robust,
-    run_robust_before, safe_sets_have_no_cycle, states_have_i64_rows,
+    safe_sets_have_no_cycle, states_have_i64_rows,
 };
 use std::alloc::{AllocError, Global};
 use std::process::Abort;
@@ -43,15 +43,12 @@ fn is_ordered(outcome: &Outcome) -> bool {
         && outcome.table.as_slice() == [(cell(1), 5)].as_slice()
 }
 
-/// Whether the events come to that, without a witness and before one.
-fn are_ordered(alloc: Global, set: &RobustSet, events: &[Event]) -> Result<[bool; 2], AllocError> {
-    let alone = run_robust(alloc, set, Rows::new(alloc), events)?;
-    let is_alone = is_ordered(&alone);
-    drop(alone);
-    let before = run_robust_before(alloc, set, Rows::new(alloc), events, &mut NoWitness)?;
-    let is_before = is_ordered(&before);
-    drop(before);
-    Ok([is_alone, is_before])
+/// Whether the events come to that.
+fn are_ordered(alloc: Global, set: &RobustSet, events: &[Event]) -> Result<bool, AllocError> {
+    let outcome = run_robust(alloc, set, Rows::new(alloc), events)?;
+    let is_so = is_ordered(&outcome);
+    drop(outcome);
+    Ok(is_so)
 }
 
 #[test]
@@ -61,7 +58,7 @@ fn commits_of_a_robust_set_have_an_order(rt: HostRuntime) -> Result<(), Fail> {
     let ordered = are_ordered(rt.alloc(), &set, &events);
     drop(set);
     drop(events);
-    assert!(rt; ordered? == [true, true]);
+    assert!(rt; ordered?);
     Ok(())
 }
 

@@ -1,9 +1,10 @@
-//! Where the output goes, and how it is written whole.
-ghost use Rattle.std.specs.Prelude.{◌≡◌, ◌<◌, ◌≤◌, ◌↔◌, ℕ, Bool, List, Option, None, true, length};
-ghost use Rattle.std.specs.Prelude.{IsErr, IfOk, OnOk, OnErr};
+//! Where the output goes, and how it is written: whole, or as it comes.
+ghost use Rattle.std.specs.Prelude.{◌≡◌, ◌<◌, ◌≤◌, ◌↔◌, ℕ, Bool, List, Option, None, false, true};
+ghost use Rattle.std.specs.Prelude.{length, string_bytes, IsErr, IfOk, OnOk, OnErr};
 ghost use Rattle.std.specs.Io.KnownBytes.{Appends, WriteAppends};
-ghost use Rattle.si_engine.specs.Writing.{AppendsFront, IsJust, WritesOr};
+ghost use Rattle.si_engine.specs.Writing.{AppendsFront, IsJust, IsUnderWay, WritesOr};
 
+use crate::input::part_fault::PartFault;
 use crate::input::source::DeviceFault;
 
 /// What bytes are written to.
@@ -53,4 +54,24 @@ pub fn write_or<K: Sink, E: Copy>(sink: &mut K, bytes: &[u8], ended: E, lost: E)
         Ok(()) => ended,
         Err(_) => lost,
     }
+}
+
+// A text of so many bytes waits no longer.
+const LONG_TEXT: usize = 65_536;
+
+/// Writes a text that has grown long, and empties it; a short one waits.
+pub fn write_when_long<K: Sink>(text: &mut String, sink: &mut K) -> Result<(), PartFault>
+    requires { K.has_failed sink.old ≡ false }
+    ensures fault { IsErr result ↔ (K.has_failed sink.new ≡ true) }
+    ensures waits { OnOk result (IsUnderWay (string_bytes text.new)
+        (K.taken sink.old) (K.taken sink.new) (string_bytes text.old)) }
+    ensures first { OnErr result
+        (AppendsFront (K.taken sink.old) (K.taken sink.new) (string_bytes text.old)) }
+{
+    if text.len() < LONG_TEXT {
+        return Ok(());
+    }
+    write_or(sink, text.as_bytes(), Ok(()), Err(PartFault::WriteFault))?;
+    text.clear();
+    Ok(())
 }

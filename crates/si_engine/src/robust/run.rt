@@ -13,7 +13,6 @@ ghost use Rattle.si_engine.specs.View.{StaysOver};
 
 use crate::engine::Engine;
 use crate::event::{Event, Reply};
-use crate::witness::{NoWitness, Witness, let_go};
 use history_book::{Book, OrderFault};
 use prog_tree::{Cell, Rows, Sequence};
 use robust_cert::RobustSet;
@@ -44,11 +43,10 @@ fn note_commit(committed: &mut Vec<usize>, event: &Event, reply: &Reply) -> Resu
 }
 
 // Hands the events to the engine, and keeps each reply and the instance of each commit.
-fn apply_events<W: Witness>(
+fn apply_events(
     alloc: Global,
     engine: &mut Engine<'_>,
     events: &[Event],
-    witness: &mut W,
 ) -> Result<(Vec<Reply>, Vec<usize>), AllocError>
     ensures over { StaysOver engine.old engine.new }
     ensures after { OnOk result (engine.new.machine ≡ machine_after
@@ -62,15 +60,14 @@ fn apply_events<W: Witness>(
     let mut committed = Vec::new(alloc);
     for event in events {
         let reply = engine.apply(event)?;
-        witness.answered(event, &reply, engine.book());
         note_commit(&mut committed, event, &reply)?;
         replies.push_reserved(reply);
     }
     Ok((replies, committed))
 }
 
-// The history of a book is lawful, its set sound and its rows of i64, as their types say.
-fn read_history(book: &Book<'_>)
+/// The history of a book is lawful, its set sound and its rows of i64, as their types say.
+pub fn read_history(book: &Book<'_>)
     ensures { IsHistory (draft_tree book.now.set) book.now.opening (history_of book.now.rows) }
 {
     book.commits();
@@ -93,30 +90,6 @@ pub fn order_of(book: &Book<'_>) -> Result<Vec<usize>, AllocError>
     }
 }
 
-/// As `run_robust`, before a witness, which is told each reply.
-pub fn run_robust_before<W: Witness>(
-    alloc: Global,
-    set: &RobustSet,
-    rows: Rows,
-    events: &[Event],
-    witness: &mut W,
-) -> Result<Outcome, AllocError>
-    ensures headline { IfOk result (Headline (draft_tree set.now) rows events.now) }
-    ensures least { IfOk result (IsLeastOrdered (draft_tree set.now) rows events.now) }
-{
-    let mut engine = Engine::open(alloc, set.set(), rows)?;
-    let (replies, committed) = apply_events(alloc, &mut engine, events, witness)?;
-    let order = order_of(engine.book())?;
-    let table = engine.table()?;
-    let_go(engine, witness.is_last());
-    Ok(Outcome {
-        replies: Sequence::from_vec(replies),
-        committed: Sequence::from_vec(committed),
-        order: Sequence::from_vec(order),
-        table,
-    })
-}
-
 /// Hands events to an engine over a robust set. Whatever they are, what committed has a serial
 /// order: the least, as `Book::serial_order` finds it.
 pub fn run_robust(
@@ -128,5 +101,14 @@ pub fn run_robust(
     ensures headline { IfOk result (Headline (draft_tree set.now) rows events.now) }
     ensures least { IfOk result (IsLeastOrdered (draft_tree set.now) rows events.now) }
 {
-    run_robust_before(alloc, set, rows, events, &mut NoWitness)
+    let mut engine = Engine::open(alloc, set.set(), rows)?;
+    let (replies, committed) = apply_events(alloc, &mut engine, events)?;
+    let order = order_of(engine.book())?;
+    let table = engine.table()?;
+    Ok(Outcome {
+        replies: Sequence::from_vec(replies),
+        committed: Sequence::from_vec(committed),
+        order: Sequence::from_vec(order),
+        table,
+    })
 }

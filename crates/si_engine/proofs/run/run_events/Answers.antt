@@ -1,39 +1,106 @@
-use Rattle.std.proofs.Common.{◌+◌, [], ◌∷◌, ◌++◌, ◌∙◌, ap, sym, drop, append_assoc, string_bytes}
+use Rattle.std.proofs.Common.{◌+◌, [], ◌∷◌, ◌++◌, ◌∙◌, ap, refl, rules, subst, sym, drop, string_bytes, Err}
+use Rattle.std.proofs.KnownBytes.{Appends-nil}
 use Rattle.std.proofs.lemmas.List.{drop_more}
+use Rattle.std.proofs.lemmas.Result.{err_from_is_err_and}
 use Rattle.prog_tree.specs.Tree.{draft_tree}
 use Rattle.si_engine.specs.Machine.{machine_step, machine_after}
-use Rattle.si_engine.specs.Runs.{event_lines}
+use Rattle.si_engine.specs.Runs.{event_lines, MakesLines}
 use Rattle.si_engine.specs.Printed.{reply_line}
-use Rattle.si_engine.proofs.OutputLaws.{adds_line}
-use Rattle.si_engine.proofs.RunLaws.{first_line, first_after}
+use Rattle.si_engine.specs.declared.input.part_fault.PartFault.TheVariants as fault
+use Rattle.si_engine.specs.declared.input.source.InputFault.TheVariants as input_fault
+use Rattle.si_engine.specs.Writing.{IsUnderWay}
+use Rattle.si_engine.proofs.OutputLaws.{adds_line, adds_none}
+use Rattle.si_engine.proofs.RunLaws.{next_lines, first_after}
+use Rattle.si_engine.proofs.SinkLaws.{cut_off, fewer_wait, has_front, more_waits, under_way}
 use Rattle.si_engine.proofs.run.run_events.Goals as goal
+
+pub returns-then-failed-clause-lines : goal.returns-then-failed-clause-lines
+returns-then-failed-clause-lines g c =
+    let lines = event_lines (draft_tree c.args.set.now) c.args.engine.now.opening c.args.events.now c.args.engine.now.machine in
+    let before = string_bytes c.args.out.now in
+    let taken = g.K.Sink.taken c.args.sink.now in
+    has_front (MakesLines lines before) before before (g.K.Sink.has_failed c.args.sink.now) taken taken (Err (fault.Input input_fault.Memory)) _ (search rules)
+    (refl, adds_none lines before) (0, Appends-nil taken)
+
+pub write_when_long-requires : goal.write_when_long-requires
+write_when_long-requires g c = c.loop-event.invariant.working
+
+pub returns-in_err-write_when_long-clause-lines : goal.returns-in_err-write_when_long-clause-lines
+returns-in_err-write_when_long-clause-lines g c =
+    let so_far = c.loop-event.invariant in
+    let set = draft_tree c.args.set.now in
+    let opening = c.args.engine.now.opening in
+    let lines = event_lines set opening c.args.events.now c.args.engine.now.machine in
+    let later = event_lines set opening (drop c.loop-event.event-index c.args.events.now) c.loop-event.engine.machine in
+    let sink = c.write_when_long.new.sink in
+    has_front (MakesLines lines (string_bytes c.args.out.now)) (string_bytes c.write_when_long.new.text) so_far.text
+    (g.K.Sink.has_failed sink) (g.K.Sink.taken c.args.sink.now) (g.K.Sink.taken sink) (Err (fault.Input input_fault.Memory)) _ (search rules)
+    (refl, (so_far.done, later, so_far.lines, so_far.added))
+    (cut_off (string_bytes c.loop-event.out) so_far.text _ _ _ so_far.under_way c.in_err-write_when_long.ensures.first)
+
+pub returns-in_err-reply-clause-lines : goal.returns-in_err-reply-clause-lines
+returns-in_err-reply-clause-lines g c =
+    let so_far = c.loop-event.invariant in
+    let set = draft_tree c.args.set.now in
+    let opening = c.args.engine.now.opening in
+    let lines = event_lines set opening c.args.events.now c.args.engine.now.machine in
+    let later = event_lines set opening (drop c.loop-event.event-index c.args.events.now) c.loop-event.engine.machine in
+    let way =
+    fewer_wait (string_bytes c.loop-event.out) (string_bytes c.write_when_long.new.text) so_far.text _ _ _ so_far.under_way c.in_ok-write_when_long.ensures.waits in
+    let exit = err_from_is_err_and c.from_residual-in_err-reply.result c.from_residual-in_err-reply.ensures.1 in
+    rw (exit.1, exit.2)
+    (under_way (MakesLines lines (string_bytes c.args.out.now)) (string_bytes c.write_when_long.new.text) so_far.text
+    (g.K.Sink.has_failed c.write_when_long.new.sink) (g.K.Sink.taken c.args.sink.now) (g.K.Sink.taken c.write_when_long.new.sink) (Err (fault.Input input_fault.Memory)) (search rules)
+    (refl, (so_far.done, later, so_far.lines, so_far.added)) way)
+
+pub returns-in_err-push_reply_line-clause-lines : goal.returns-in_err-push_reply_line-clause-lines
+returns-in_err-push_reply_line-clause-lines g c =
+    let so_far = c.loop-event.invariant in
+    let set = draft_tree c.args.set.now in
+    let opening = c.args.engine.now.opening in
+    let lines = event_lines set opening c.args.events.now c.args.engine.now.machine in
+    let later = event_lines set opening (drop c.loop-event.event-index c.args.events.now) c.loop-event.engine.machine in
+    let waited = string_bytes c.write_when_long.new.text in
+    let way = fewer_wait (string_bytes c.loop-event.out) waited so_far.text _ _ _ so_far.under_way c.in_ok-write_when_long.ensures.waits in
+    let old = g.K.Sink.taken c.args.sink.now in
+    let new = g.K.Sink.taken c.write_when_long.new.sink in
+    let same = subst (λ w. IsUnderWay w old new so_far.text) (sym c.in_err-push_reply_line.ensures.err) way in
+    let exit = err_from_is_err_and c.from_residual-in_err-push_reply_line.result c.from_residual-in_err-push_reply_line.ensures.1 in
+    rw (exit.1, exit.2)
+    (under_way (MakesLines lines (string_bytes c.args.out.now)) (string_bytes c.push_reply_line.new.text) so_far.text (g.K.Sink.has_failed c.write_when_long.new.sink) old new (Err (fault.Input input_fault.Memory)) (search rules)
+    (refl, (so_far.done, later, so_far.lines, so_far.added)) same)
 
 pub loop-event-preserved : goal.loop-event-preserved
 loop-event-preserved g c =
-    let before = c.loop-event.invariant in
+    let so_far = c.loop-event.invariant in
     let set = draft_tree c.args.set.now in
     let opening = c.args.engine.now.opening in
     let event = c.event-item.result in
     let later = drop (c.loop-event.event-index + 1) c.args.events.now in
+    let machine = c.loop-event.engine.machine in
+    let next = c.apply.new.self.machine in
     let reply = c.in_ok-reply.reply in
     let line = reply_line set.tables event reply in
     let parts = drop_more c.args.events.now c.loop-event.event-index event c.loop-event-test.true ∙ ap (λ e. e ∷ later) (sym c.event-item.is) in
     let step =
     c.in_ok-reply.ensures.step
-    ∙ (ap (λ d. machine_step (draft_tree d) c.loop-event.engine.opening event c.loop-event.engine.machine) (before.same_set ∙ c.requires)
-    ∙ ap (λ o. machine_step set o event c.loop-event.engine.machine) before.same_opening) in
-    let written = c.in_ok-push_reply_line.ensures.ok ∙ ap (λ tables. string_bytes c.loop-event.out ++ reply_line tables event reply) c.deref.ensures.value in
+    ∙ (ap (λ d. machine_step (draft_tree d) c.loop-event.engine.opening event machine) (so_far.same_set ∙ c.requires)
+    ∙ ap (λ o. machine_step set o event machine) so_far.same_opening) in
+    let waited = string_bytes c.write_when_long.new.text in
+    let written = c.in_ok-push_reply_line.ensures.ok ∙ ap (λ tables. waited ++ reply_line tables event reply) c.deref.ensures.value in
+    let way = fewer_wait (string_bytes c.loop-event.out) waited so_far.text _ _ _ so_far.under_way c.in_ok-write_when_long.ensures.waits in
     record {
-      same_set = c.in_ok-reply.ensures.over.0 ∙ before.same_set;
-      same_opening = c.in_ok-reply.ensures.over.1 ∙ before.same_opening;
+      same_set = c.in_ok-reply.ensures.over.0 ∙ so_far.same_set;
+      same_opening = c.in_ok-reply.ensures.over.1 ∙ so_far.same_opening;
       after =
-          sym (first_after set opening event later c.loop-event.engine.machine c.apply.new.self.machine reply step)
-          ∙ (ap (λ events. machine_after set opening events c.loop-event.engine.machine) (sym parts) ∙ before.after);
-      done = before.done ++ line ∷ [];
+          sym (first_after set opening event later machine next reply step)
+          ∙ (ap (λ events. machine_after set opening events machine) (sym parts) ∙ so_far.after);
+      done = so_far.done ++ line ∷ [];
       lines =
-          before.lines
-          ∙ (ap (λ events. before.done ++ event_lines set opening events c.loop-event.engine.machine) parts
-          ∙ (ap (λ lines. before.done ++ lines) (first_line set opening event later c.loop-event.engine.machine c.apply.new.self.machine reply step)
-          ∙ sym (append_assoc before.done (line ∷ []) (event_lines set opening later c.apply.new.self.machine))));
-      added = adds_line before.done line (string_bytes c.args.out.now) (string_bytes c.loop-event.out) (string_bytes c.push_reply_line.new.text) before.added written;
+          next_lines set opening event later machine next reply step _ so_far.done
+          (so_far.lines ∙ ap (λ events. so_far.done ++ event_lines set opening events machine) parts);
+      text = so_far.text ++ line;
+      added = adds_line so_far.done line (string_bytes c.args.out.now) so_far.text (so_far.text ++ line) so_far.added refl;
+      under_way = more_waits waited line (string_bytes c.push_reply_line.new.text) so_far.text _ _ written way;
+      working = search rules;
     }

@@ -1,10 +1,11 @@
-use Rattle.std.proofs.Common.{◌≡◌, List, ℕ, ◌++◌, drop, string_bytes}
+use Rattle.std.proofs.Common.{◌≡◌, false, List, ℕ, ◌++◌, drop, string_bytes}
 use Rattle.prog_tree.specs.Tree.{draft_tree}
 use Rattle.si_engine.specs.Machine.{machine_after}
 use Rattle.si_engine.specs.Runs.{event_lines, AddsLines}
+use Rattle.si_engine.specs.Writing.{IsUnderWay}
 use Rattle.si_engine.proofs.run.run_events.Given as goal
 
--- the lines so far, and those of the events that are left, are all lines
+-- the lines so far, and those of the events that are left, are all lines; the text of those so far is under way
 abbrev pub invariant-loop-event : goal.invariant-loop-event
 invariant-loop-event g l = record {
   same_set : l.engine.set ≡ l.fn.engine.set;
@@ -14,5 +15,8 @@ invariant-loop-event g l = record {
   done : List (List ℕ);
   lines : event_lines (draft_tree l.set) l.fn.engine.opening l.events l.fn.engine.machine
       ≡ done ++ event_lines (draft_tree l.set) l.fn.engine.opening (drop l.event-index l.events) l.engine.machine;
-  added : AddsLines done (string_bytes l.fn.out) (string_bytes l.out);
+  text : List ℕ;
+  added : AddsLines done (string_bytes l.fn.out) text;
+  under_way : IsUnderWay (string_bytes l.out) (g.K.Sink.taken l.fn.sink) (g.K.Sink.taken l.sink) text;
+  working : g.K.Sink.has_failed l.sink ≡ false;
 }

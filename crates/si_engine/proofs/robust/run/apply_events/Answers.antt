@@ -8,10 +8,10 @@ use Rattle.si_engine.proofs.RunLaws.{first_after, first_reply, first_commit}
 use Rattle.si_engine.proofs.robust.run.apply_events.Goals as goal
 
 pub push_reserved-requires : goal.push_reserved-requires
-push_reserved-requires g c = omega (arith, c.loop-event-test.true, c.loop-event.invariant.one_each, c.loop-event.invariant.room)
+push_reserved-requires c = omega (arith, c.loop-event-test.true, c.loop-event.invariant.one_each, c.loop-event.invariant.room)
 
 pub loop-event-preserved : goal.loop-event-preserved
-loop-event-preserved g c =
+loop-event-preserved c =
     let before = c.loop-event.invariant in
     let set = draft_tree c.args.engine.now.set in
     let opening = c.args.engine.now.opening in

@@ -7,7 +7,7 @@ use Rattle.si_engine.proofs.robust.run.apply_events.Given as goal
 
 -- what is kept so far, and what the events that are left give, are the whole, and each reply has room
 abbrev pub invariant-loop-event : goal.invariant-loop-event
-invariant-loop-event g l =
+invariant-loop-event l =
     let set = draft_tree l.fn.engine.set in
     let opening = l.fn.engine.opening in
     let later = drop l.event-index l.events in

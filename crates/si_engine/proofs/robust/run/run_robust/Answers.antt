@@ -8,15 +8,15 @@ use Rattle.history_book.specs.Serial.{Fits}
 use Rattle.si_engine.specs.Headline.{commits_said, rows_of_machine}
 use Rattle.si_engine.specs.Machine.{Machine, new_machine, machine_after, replies_of}
 use Rattle.si_engine.proofs.HeadlineLaws.{at_start, fits_machine, headline}
-use Rattle.si_engine.proofs.robust.run.run_robust_before.Goals as goal
+use Rattle.si_engine.proofs.robust.run.run_robust.Goals as goal
 
 pub order_of-requires : goal.order_of-requires
-order_of-requires g c =
+order_of-requires c =
     let same = c.book.ensures.set ∙ (c.in_ok-replies.ensures.over.0 ∙ (ap (λ e. e.set) c.in_ok-engine.ensures ∙ c.set.ensures.same)) in
     record { safe = subst (λ (d : Draft). IsDangerous (paths_of (draft_tree d)) → ⊥) (sym same) c.set.ensures.safe }
 
 pub returns-clause-headline : goal.returns-clause-headline
-returns-clause-headline g c =
+returns-clause-headline c =
     let set = c.args.set.now in
     let given = c.set.result.now in
     let rows = c.args.rows in
