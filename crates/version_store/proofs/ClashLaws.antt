@@ -1,5 +1,5 @@
 -- Laws of clashes: the first of some cells that has a number above the start.
-use Rattle.std.proofs.Common.{◌≡◌, ◌↔◌, ◌∙◌, ◌⊎◌, inl, inr, ℕ, suc, max, ◌<◌, ◌≤◌, Bool, true, false, ◌||◌, if◌then◌else◌, leb, nat_lt, List, [], ◌∷◌, ◌++◌, append_assoc, append-nil, refl, ap, sym, subst, arith}
+use Rattle.std.proofs.Common.{◌+◌, length, ◌≡◌, ◌↔◌, ◌∙◌, ◌⊎◌, inl, inr, ℕ, suc, max, ◌<◌, ◌≤◌, Bool, true, false, ◌||◌, if◌then◌else◌, leb, nat_lt, List, [], ◌∷◌, ◌++◌, append_assoc, append-nil, refl, ap, sym, subst, arith}
 use Rattle.std.specs.Prelude.{Option, Some, None}
 use Rattle.std.specs.BTreeSet.{insert_key}
 use Rattle.std.specs.Cmp.{tied_itself}
@@ -164,6 +164,21 @@ first-seen p number other start None same h = λ c passes above. h c passes (ome
 first-seen p number other start (Some x) same h =
     let equal : number x.0 ≡ other x.0 = omega (arith, h.1, same x.0) in
     (h.0, omega (arith, h.1, equal), h.2 ∙ equal, λ c passes above. h.3 c passes (omega (arith, above, same c)))
+
+-- no commit has a number above how many there are
+last_touch-within : (c : Cell) (k : ℕ) (ws : List ChangeSet) → last_touch c (k + 1) ws ≤ k + length ws
+last_touch-within c k [] = omega arith
+last_touch-within c k (w ∷ ws) =
+    let later = last_touch-within c (k + 1) ws in
+    go (touches_cell w c) later
+  where
+    go : (b : Bool) → last_touch c (k + 1 + 1) ws ≤ k + 1 + length ws → max (if b then k + 1 else 0) (last_touch c (k + 1 + 1) ws) ≤ k + length (w ∷ ws)
+    go true later = omega (arith, later)
+    go false later = omega (arith, later)
+
+-- behind the last commit nothing clashes
+pub none_behind : (ws : List ChangeSet) (start : ℕ) (w : ChangeSet) → length ws ≤ start → IsClash ws start w None
+none_behind ws start w last c touches above = let within = last_touch-within c 0 ws in omega (arith, last, above, within)
 
 -- the first of the touched cells, by numbers that are those of the last commits as far as they are above the start
 pub clash_found :

@@ -125,13 +125,17 @@ impl Store {
         self.chains.state_rows(start)
     }
 
-    /// The clash of what an instance changes and keeps with the commits above its start.
+    /// The clash of what an instance changes and keeps with the commits above its start. Where
+    /// there is none above it, no cell is looked for.
     pub fn clash(&self, start: u64, changes: &Changes) -> Option<Clash>
         requires above { self.now.floor ≤ start }
         requires within { start ≤ self.now.commits }
         ensures { InEachHistory self.now (λ opening ws.
             IsClash ws start changes.now (told result)) }
     {
+        if start == self.commits {
+            return None;
+        }
         first_clash(&self.chains, start, changes)
     }
 
