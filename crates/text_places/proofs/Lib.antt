@@ -1,4 +1,5 @@
 mod Begun
 mod Counting
 mod Finding
+mod Fronts
 pub mod Unsaid

@@ -33,12 +33,22 @@ pub enum Landmark {
     Job,
 }
 
+// Whether a word stands at the front. Most bytes are not its first one.
+fn begins_with(word: &[u8], bytes: &[u8]) -> bool
+    ensures { result ≡ bytes_eq (short_word bytes.now) word.now }
+{
+    match (bytes, word) {
+        ([byte, ..], [first, ..]) if byte != first => false,
+        _ => short_word(bytes) == word,
+    }
+}
+
 // Whether a word stands at a place, and before it in its line only spaces.
 fn begins_line_with(word: &[u8], text: &[u8], place: usize) -> bool
     ensures { result ≡ (bytes_eq (short_word (drop place text.now)) word.now
         && begins_line text.now place) }
 {
-    short_word(behind(text, place)) == word && begins_line(text, place)
+    begins_with(word, behind(text, place)) && begins_line(text, place)
 }
 
 fn is_landmark(kind: Landmark, text: &[u8], place: usize) -> bool
