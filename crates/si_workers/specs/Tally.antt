@@ -1,8 +1,9 @@
 -- How often keys are noted.
-use Rattle.std.specs.Prelude.{◌≡◌, ℕ, ◌+◌, ◌-◌, ◌^◌, min, List, Option, None, Some, if◌then◌else◌}
+use Rattle.std.specs.Prelude.{◌≡◌, ℕ, ◌+◌, ◌-◌, ◌^◌, min, nat_lt, List, length, slice_index_or, Option, None, Some, if◌then◌else◌}
 use Rattle.std.specs.BTreeMap.{is_at}
 use Rattle.std.specs.Map.{lookup}
 use Rattle.std.specs.Option.{unwrap_or}
+use Rattle.std.specs.Ordering.{nat_cmp}
 use Rattle.std.specs.declared.cmp.Ordering.{Ordering}
 
 -- the greatest u64
@@ -25,3 +26,16 @@ times_noted cmp (Some note) q = if is_at (cmp note.0) q then note.1 else 0
 -- each key was noted so many times, as far as a u64 can tell
 abbrev pub Tallies : {K : Type 0} → (K → K → Ordering) → (K → ℕ) → List (K × ℕ) → Type 0
 Tallies {K} cmp times t = (q : K) → count_in cmp t q ≡ min (times q) most
+
+-- counts of numbers: those of the first ones by their places, those of others with them
+pub record NumberCounts : Type 0 where
+  pub near : List ℕ
+  pub far : List (ℕ × ℕ)
+
+-- how often a number was noted
+abbrev pub count_of : NumberCounts → ℕ → ℕ
+count_of t q = if nat_lt q (length t.near) then slice_index_or t.near q 0 else count_in nat_cmp t.far q
+
+-- each number was noted so many times, as far as a u64 can tell
+abbrev pub TalliesNumbers : (ℕ → ℕ) → NumberCounts → Type 0
+TalliesNumbers times t = (q : ℕ) → count_of t q ≡ min (times q) most

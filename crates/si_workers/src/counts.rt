@@ -6,7 +6,7 @@ ghost use Rattle.si_workers.specs.Keys.{call_at};
 ghost use Rattle.si_workers.specs.Outcomes.{AreAbortsTold, AreAsMany, IsClashKept, IsNamedOnce};
 
 use crate::keys::{AbortKey, CallKey, ClashKey};
-use crate::tally::Tally;
+use crate::tally::{NumberTally, Tally};
 use crate::told::Tiding;
 use history_book::{Clash, Ending};
 use prog_tree::Cause;
@@ -19,7 +19,7 @@ pub struct Counts<'c> {
     endings: &'c [Ending],
     tidings: &'c [Tiding<'c>],
     // the commits that jobs name
-    told_commits: Tally<u64>,
+    told_commits: NumberTally,
     kept_aborts: Tally<AbortKey<'c>>,
     told_aborts: Tally<AbortKey<'c>>,
     kept_clashes: Tally<ClashKey<'c>>,
@@ -29,13 +29,12 @@ pub struct Counts<'c> {
 
 impl<'c> Model for Counts<'c> {
     ghost use Rattle.std.specs.Prelude.{◌<◌, length};
-    ghost use Rattle.std.specs.Ordering.{nat_cmp};
     ghost use Rattle.si_workers.specs.Counts.{Counted};
     ghost use Rattle.si_workers.specs.KeptAndTold.{aborts_kept, aborts_told, clashes_kept};
     ghost use Rattle.si_workers.specs.KeptAndTold.{clashes_on, clashes_told, commits_told};
     ghost use Rattle.si_workers.specs.Keys.{abort_cmp, call_at, call_cmp, cause_at, clash_at};
     ghost use Rattle.si_workers.specs.Keys.{clash_cmp};
-    ghost use Rattle.si_workers.specs.Tally.{Tallies, most};
+    ghost use Rattle.si_workers.specs.Tally.{Tallies, TalliesNumbers, most};
 
     ghost Value = { Counted };
 
@@ -43,7 +42,7 @@ impl<'c> Model for Counts<'c> {
 
     // A u64 tells each count of the endings.
     ghost invariant = { λ c. (length c.endings.now < most)
-        × Tallies nat_cmp (λ number. commits_told number c.tidings.now) c.told_commits
+        × TalliesNumbers (λ number. commits_told number c.tidings.now) c.told_commits
         × Tallies abort_cmp (λ q.
         aborts_kept (call_at q.call) (cause_at q.cause) c.endings.now) c.kept_aborts
         × Tallies abort_cmp (λ q.
@@ -64,9 +63,9 @@ impl<'c> Counts<'c> {
         ensures { IfOk result (λ counts.
             counts ≡ record { endings = endings.now; tidings = tidings.now }) }
     {
-        // The endings can be counted, with one more.
-        let _more = endings.len() + 1;
-        let told_commits = Tally::of(alloc, tidings)?;
+        // The endings can be counted, with one more; no commit has a greater number.
+        let bound = endings.len() + 1;
+        let told_commits = NumberTally::of(alloc, bound, tidings)?;
         let kept_aborts = Tally::of(alloc, endings)?;
         let told_aborts = Tally::of(alloc, tidings)?;
         let kept_clashes = Tally::of(alloc, endings)?;
@@ -88,14 +87,14 @@ impl<'c> Counts<'c> {
     pub fn is_named(&self, number: u64) -> bool
         ensures { IsTrue result ↔ (0 < commits_told number self.now.tidings) }
     {
-        self.told_commits.count(&number) > 0
+        self.told_commits.count(number) > 0
     }
 
     /// Whether just one job names the commit of a number.
     pub fn is_named_once(&self, number: u64) -> bool
         ensures { IsTrue result ↔ IsNamedOnce self.now.tidings number }
     {
-        self.told_commits.count(&number) == 1
+        self.told_commits.count(number) == 1
     }
 
     /// Whether some job of a call tells an abort by a cause.

@@ -1,7 +1,9 @@
 //! How often things were noted.
 
+ghost use Rattle.std.specs.Ordering.{nat_cmp};
 ghost use Rattle.std.specs.Prelude.{◌≡◌, ℕ, [], IfOk, OnOk, sum_by};
-ghost use Rattle.si_workers.specs.Tally.{Tallies, count_in, more, times_noted};
+ghost use Rattle.si_workers.specs.Tally.{Tallies, TalliesNumbers, count_in, count_of, more};
+ghost use Rattle.si_workers.specs.Tally.{times_noted};
 
 use std::alloc::{AllocError, Global};
 use std::collections::BTreeMap;
@@ -64,6 +66,75 @@ impl<K: Ord + Drop> Tally<K> {
         for thing in things {
             if let Some((key, times)) = thing.noted() {
                 tally.note(key, times)?;
+            }
+        }
+        Ok(tally)
+    }
+}
+
+/// How often each number was noted, as far as a u64 can tell. Numbers below a bound have a place
+/// of their own; the others are looked up.
+#[derive(Debug, Drop)]
+pub struct NumberTally {
+    near: Vec<u64>,
+    far: Tally<u64>,
+}
+
+impl Model for NumberTally {
+    ghost use Rattle.si_workers.specs.Tally.{NumberCounts};
+
+    ghost Value = { NumberCounts };
+
+    ghost view = { λ t. record { near = t.near.items; far = t.far } };
+}
+
+impl NumberTally {
+    /// No number was noted.
+    pub fn new(alloc: Global, bound: usize) -> Result<Self, AllocError>
+        ensures { IfOk result (λ tally. (q : ℕ) → count_of tally q ≡ 0) }
+    {
+        Ok(NumberTally {
+            near: vec![in alloc; 0; bound]?,
+            far: Tally::new(alloc),
+        })
+    }
+
+    /// How often a number was noted.
+    pub fn count(&self, number: u64) -> u64
+        ensures { result ≡ count_of self.now number }
+    {
+        match self.near.get(number as usize) {
+            Some(count) => *count,
+            None => self.far.count(&number),
+        }
+    }
+
+    /// Notes a number so many times.
+    pub fn note(&mut self, number: u64, times: u64) -> Result<(), AllocError>
+        ensures { OnOk result ((q : ℕ) → count_of self.new q
+            ≡ more nat_cmp number times q (count_of self.old q)) }
+    {
+        match self.near.get_mut(number as usize) {
+            Some(count) => {
+                *count = count.saturating_add(times);
+                Ok(())
+            }
+            None => self.far.note(number, times),
+        }
+    }
+
+    /// How often each number is noted by some things, of which most are below a bound.
+    pub fn of<'c, X: Notes<'c, u64>>(
+        alloc: Global,
+        bound: usize,
+        things: &'c [X],
+    ) -> Result<Self, AllocError>
+        ensures { IfOk result (TalliesNumbers (λ q. sum_by (λ x. X.times x q) things.now)) }
+    {
+        let mut tally = NumberTally::new(alloc, bound)?;
+        for thing in things {
+            if let Some((number, times)) = thing.noted() {
+                tally.note(number, times)?;
             }
         }
         Ok(tally)
