@@ -36,3 +36,4 @@ pub mod ToldLaws
 mod TurnVectors
 pub mod VulnerableLaws
 pub mod WritingLaws
+mod WrittenLaws

@@ -7,6 +7,7 @@ use Rattle.prog_tree.specs.Table.{TableState}
 use Rattle.history_book.specs.Dependencies.{depends}
 use Rattle.history_book.specs.History.{Instance}
 use Rattle.history_book.specs.Orders.{least_order, IsCycle}
+use Rattle.history_book.specs.Serial.{Fits}
 use Rattle.si_engine.specs.declared.output.finding.Serializability.{Serializability}
 use Rattle.si_engine.specs.declared.output.finding.Serializability.TheVariants.{Order, Cycle}
 
@@ -19,9 +20,11 @@ abbrev pub last_line : Serializability → List ℕ → List ℕ
 last_line Order numbers = codes "order" ++ (spaced_numbers numbers ++ codes "\n")
 last_line Cycle numbers = codes "cycle" ++ (spaced_numbers numbers ++ codes "\n")
 
--- the least serial order of a history, or a cycle of its commits
+-- the least serial order of a history, along which its instances, one after another, give their replies and leave its
+-- rows; or a cycle of its commits
 abbrev pub IsFinding : DraftTree → TableState → List Instance → Serializability → List ℕ → Type 0
-IsFinding set opening h Order numbers = least_order (depends set opening h) (length h) ≡ Some numbers
+IsFinding set opening h Order numbers =
+    (least_order (depends set opening h) (length h) ≡ Some numbers) × Fits set opening h numbers
 IsFinding set opening h Cycle numbers = IsCycle (depends set opening h) numbers
 
 -- the last line after a history

@@ -11,11 +11,12 @@ use Rattle.si_engine.specs.declared.event.Event.{Event}
 use Rattle.si_engine.specs.declared.output.finding.Serializability.{Serializability}
 use Rattle.si_engine.specs.declared.output.finding.Serializability.TheVariants.{Order}
 use Rattle.si_engine.specs.declared.input.script.Script.{Script}
+use Rattle.si_engine.specs.declared.robust.run.Outcome.{Outcome}
 use Rattle.si_engine.specs.declared.input.part_fault.PartFault.{PartFault}
 use Rattle.si_engine.specs.declared.input.part_fault.PartFault.TheVariants as fault
 use Rattle.si_engine.specs.declared.input.source.InputFault.TheVariants as input_fault
-use Rattle.si_engine.specs.Headline.{Exchange}
-use Rattle.si_engine.specs.LastLine.{IsLastLine}
+use Rattle.si_engine.specs.Headline.{Exchange, Headline, IsLeastOrdered}
+use Rattle.si_engine.specs.LastLine.{last_line, IsLastLine}
 use Rattle.si_engine.specs.Machine.{Machine, new_machine, machine_after, replies_of}
 use Rattle.si_engine.specs.Printed.{reply_line, printed_row}
 use Rattle.si_engine.specs.Sources.{ForInput}
@@ -132,3 +133,17 @@ abbrev pub IsRobustScriptRun :
     Result Serializability PartFault → Type 0
 IsRobustScriptRun set left failed lost old new ended =
     WritesOr (Err fault.WriteFault) (IsOrderedReply set left failed) lost old new ended
+
+-- ---- the headline, of what is written
+
+-- the lines that events came to: what each was answered, the rows that are left, and the order
+abbrev pub outcome_lines : DraftTree → List Event → Outcome → List (List ℕ)
+outcome_lines set events o =
+    exchange_lines set.tables (zip events o.replies) ++ row_lines set o.table ++ last_line Order o.order ∷ []
+
+-- where the last line of a script is an order, what was written is the lines of an outcome of which the headline holds
+abbrev pub LawOfWrittenOrders : Type 0
+LawOfWrittenOrders =
+    (set : DraftTree) (script : Script) (written : List ℕ) → AddsRun set script Order [] written →
+    (o : Outcome) × Headline set script.rows script.events o × IsLeastOrdered set script.rows script.events o
+    × (written ≡ concat (outcome_lines set script.events o))

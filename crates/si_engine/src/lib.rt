@@ -36,7 +36,7 @@ pub use port::Port;
 pub use robust::laws::{
     concurrent_dependencies_are_vulnerable, cycles_are_dangerous, cycles_end_in_two_missed_changes,
     dependencies_are_static_edges, grow_tables_gain_each_row_once, instances_follow_nodes,
-    safe_sets_have_no_cycle, states_have_i64_rows,
+    safe_sets_have_no_cycle, states_have_i64_rows, written_orders_are_serial,
 };
 pub use robust::run::{Outcome, order_of, run_robust};
 pub use robust::script::run_robust_script_before;

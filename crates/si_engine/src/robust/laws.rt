@@ -9,6 +9,7 @@ ghost use Rattle.history_book.specs.History.{Instance, IsLawful, state_after};
 ghost use Rattle.si_engine.specs.Robustness.{LawOfCycles, LawOfInserts, LawOfNodes, LawOfSafeSets};
 ghost use Rattle.si_engine.specs.Robustness.{LawOfLastSteps, LawOfSingleInserts, LawOfStaticEdges};
 ghost use Rattle.si_engine.specs.Robustness.{LawOfVulnerableEdges};
+ghost use Rattle.si_engine.specs.Runs.{LawOfWrittenOrders};
 
 /// From opening rows of i64, the states of a lawful history have rows of i64.
 pub fn states_have_i64_rows()
@@ -55,4 +56,11 @@ pub fn cycles_are_dangerous()
 /// So a set without a dangerous structure has no lawful history with a cycle of dependencies.
 pub fn safe_sets_have_no_cycle()
     ensures { LawOfSafeSets }
+{}
+
+/// Where a run of a script ends in an order, what it wrote is what `run_robust` promises of its
+/// outcome: the machine's replies and rows, and an order along which the instances that committed,
+/// one after another, give the same replies and leave the same rows.
+pub fn written_orders_are_serial()
+    ensures { LawOfWrittenOrders }
 {}
