@@ -6,6 +6,7 @@ pub mod CycleLaws
 pub mod CycleSteps
 pub mod EdgeLaws
 pub mod EngineLaws
+pub mod EventLaws
 pub mod FoundCycles
 pub mod GrowLaws
 pub mod HeadlineLaws

@@ -1,5 +1,6 @@
 pub mod AtHand
 pub mod Commands
+pub mod Events
 pub mod Headline
 pub mod LastLine
 pub mod Limits

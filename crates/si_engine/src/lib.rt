@@ -15,6 +15,7 @@ mod witness;
 pub use engine::Engine;
 pub use event::{Event, Reply};
 pub use input::bytes::Bytes;
+pub use input::events::{EventReader, Events, NextEvent};
 pub use input::from_lines::{FromLines, read_lines, read_part};
 pub use input::item_list::ItemList;
 pub use input::line_fault::LineFault;

@@ -1,16 +1,18 @@
 //! Runs of scripts: from the bytes of a script to the lines of its replies, its rows and the end.
-ghost use Rattle.std.specs.Prelude.{◌≡◌, ◌≤◌, ◌+◌, [], string_bytes, OnOk};
+ghost use Rattle.std.specs.Prelude.{◌≡◌, ◌≤◌, ◌+◌, [], string_bytes, ◌++◌, OnErr, OnOk};
 ghost use Rattle.prog_tree.specs.Tree.{draft_tree};
 ghost use Rattle.prog_check.specs.Paths.{paths_of};
 ghost use Rattle.prog_paths.specs.StaticGraph.{IsDangerous};
-ghost use Rattle.si_engine.specs.Machine.{machine_after};
+ghost use Rattle.si_engine.specs.Events.{next_event};
+ghost use Rattle.si_engine.specs.Machine.{machine_after, machine_step};
+ghost use Rattle.si_engine.specs.Printed.{reply_line};
 ghost use Rattle.si_engine.specs.Runs.{event_lines, MakesLines, MakesRun, IsSafeReply};
 ghost use Rattle.si_engine.specs.Runs.{IsScriptRun, IsRobustScriptRun};
 ghost use Rattle.si_engine.specs.View.{StaysOver};
 ghost use Rattle.si_engine.specs.Writing.{WritesSoFar};
 
 use crate::engine::Engine;
-use crate::event::Event;
+use crate::input::events::{Events, NextEvent};
 use crate::input::part_fault::PartFault;
 use crate::input::script::{Script, read_script};
 use crate::input::source::Source;
@@ -22,14 +24,36 @@ use crate::robust::run::read_history;
 use crate::witness::{NoWitness, Witness, let_go};
 use prog_check::ProgramSet;
 use prog_tree::Draft;
-use std::alloc::Global;
+use std::alloc::{AllocError, Global};
+
+// Hands the next event to the engine, and writes the line of its reply. Where memory runs out, no
+// part of it is written.
+fn answer_next<W: Witness>(
+    engine: &mut Engine<'_>,
+    set: &Draft,
+    next: NextEvent<'_>,
+    out: &mut String,
+    witness: &mut W,
+) -> Result<(), AllocError>
+    ensures over { StaysOver engine.old engine.new }
+    ensures answer { OnOk result (let event = next_event next.entry in
+        let step = machine_step (draft_tree engine.old.set) engine.old.opening event
+        engine.old.machine in (engine.new.machine ≡ step.1) × (string_bytes out.new
+        ≡ string_bytes out.old ++ reply_line set.now.tables.items event step.0)) }
+    ensures err { OnErr result (string_bytes out.new ≡ string_bytes out.old) }
+{
+    let event = next.event();
+    let reply = engine.apply(event)?;
+    witness.answered(event, &reply, engine.book());
+    push_reply_line(out, &set.tables, event, &reply)
+}
 
 // Hands the events to the engine, and writes the line of each reply, many lines at a time. The
 // last ones wait.
 fn run_events<K: Sink, W: Witness>(
     engine: &mut Engine<'_>,
     set: &Draft,
-    events: &[Event],
+    events: &Events,
     out: &mut String,
     sink: &mut K,
     witness: &mut W,
@@ -47,11 +71,10 @@ fn run_events<K: Sink, W: Witness>(
     if sink.failed() {
         return Err(PartFault::WriteFault);
     }
-    for event in events {
+    let mut rest = events.reader();
+    while let Some(next) = rest.next() {
         write_when_long(out, sink)?;
-        let reply = engine.apply(event)?;
-        witness.answered(event, &reply, engine.book());
-        push_reply_line(out, &set.tables, event, &reply)?;
+        answer_next(engine, set, next, out, witness)?;
     }
     Ok(())
 }
@@ -73,7 +96,7 @@ fn make_lines<K: Sink, W: Witness>(
     let Script { rows, events } = script;
     let draft = set.draft();
     let mut engine = Engine::open(alloc, set, rows)?;
-    run_events(&mut engine, draft, events.as_slice(), out, sink, witness)?;
+    run_events(&mut engine, draft, &events, out, sink, witness)?;
     let book = engine.book();
     read_history(book);
     let ended = push_findings_before(book, out, witness);

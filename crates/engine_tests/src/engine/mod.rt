@@ -2,6 +2,7 @@
 //! witnesses.
 
 mod device_tests;
+mod event_list_tests;
 mod event_tests;
 mod fakes;
 mod line_tests;

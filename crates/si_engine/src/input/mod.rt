@@ -2,6 +2,7 @@
 
 pub mod bytes;
 pub mod command;
+pub mod events;
 pub mod from_lines;
 pub mod item_list;
 pub mod line_fault;

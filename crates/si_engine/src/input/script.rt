@@ -9,6 +9,7 @@ ghost use Rattle.si_engine.specs.Script.{IsScriptFault};
 
 use crate::event::Event;
 use crate::input::command::{Command, line_command};
+use crate::input::events::Events;
 use crate::input::from_lines::{FromLines, read_part};
 use crate::input::line_fault::LineFault;
 use crate::input::part_fault::PartFault;
@@ -16,14 +17,14 @@ use crate::input::row_line::add_row;
 use crate::input::source::{InputFault, Source};
 use crate::limits::{MAX_EVENTS, MAX_READS};
 use prog_check::ProgramSet;
-use prog_tree::{Rows, Sequence};
+use prog_tree::Rows;
 use std::alloc::{AllocError, Global};
 
 /// The opening rows and the events of a script.
 #[derive(Drop)]
 pub struct Script {
     pub rows: Rows,
-    pub events: Sequence<Event>,
+    pub events: Events,
 }
 
 impl Script {
@@ -107,7 +108,7 @@ impl FromLines for Script {
     fn none(alloc: Global) -> Self {
         Script {
             rows: Rows::new(alloc),
-            events: Sequence::new(alloc),
+            events: Events::new(alloc),
         }
     }
 

@@ -37,8 +37,8 @@ returns-in_err-run_events g c =
     let new = g.K.Sink.taken c.run_events.new.sink in
     rw (exit.1, exit.2)
     (subst (λ (d : Draft). WritesSoFar (MakesRun (draft_tree d) c.args.script before) waiting failed old new (Err f)) c.draft-draft.ensures.same
-    (stops_in_events (draft_tree c.draft-draft.result.now) c.args.script engine.opening c.as_slice.result.now engine.machine
-    (ap (λ e. e.opening) c.in_ok-engine.ensures) c.as_slice.ensures (ap (λ e. e.machine) c.in_ok-engine.ensures)
+    (stops_in_events (draft_tree c.draft-draft.result.now) c.args.script engine.opening c.args.script.events engine.machine
+    (ap (λ e. e.opening) c.in_ok-engine.ensures) refl (ap (λ e. e.machine) c.in_ok-engine.ensures)
     before waiting failed old new f c.in_err-run_events.ensures.lines))
 
 pub returns-in_err-ended : goal.returns-in_err-ended
@@ -52,7 +52,7 @@ returns-in_err-ended g c =
     let book = c.book-book.result.now in
     let same = c.book-book.ensures.set ∙ (ran.over.0 ∙ (ap (λ e. e.set) c.in_ok-engine.ensures ∙ sym c.draft-draft.ensures.same)) in
     let history =
-    c.book-book.ensures.history ∙ ap (λ m. m.history) (ran.after ∙ after_is set c.args.script engine.opening c.as_slice.result.now engine.machine opening c.as_slice.ensures machine) in
+    c.book-book.ensures.history ∙ ap (λ m. m.history) (ran.after ∙ after_is set c.args.script engine.opening c.args.script.events engine.machine opening refl machine) in
     let f = fault.Input input_fault.Memory in
     let before = string_bytes c.args.out.now in
     let waiting = string_bytes c.run_events.new.out in
@@ -66,7 +66,7 @@ returns-in_err-ended g c =
     is c.push_findings_before-ended.ensures.err in
     rw (exit.1, exit.2)
     (subst (λ (d : Draft). WritesSoFar (MakesRun (draft_tree d) c.args.script before) later failed old new (Err f)) c.draft-draft.ensures.same
-    (stops_in_rows set c.args.script engine.opening c.as_slice.result.now engine.machine opening c.as_slice.ensures machine
+    (stops_in_rows set c.args.script engine.opening c.args.script.events engine.machine opening refl machine
     before waiting failed old new later (draft_tree book.set) book.opening (history_of book.rows) (ap draft_tree same)
     (c.book-book.ensures.opening ∙ (ran.over.1 ∙ opening)) history ran.lines f refl first))
 
@@ -80,7 +80,7 @@ returns g c =
     let book = c.book-book.result.now in
     let same = c.book-book.ensures.set ∙ (ran.over.0 ∙ (ap (λ e. e.set) c.in_ok-engine.ensures ∙ sym c.draft-draft.ensures.same)) in
     let history =
-    c.book-book.ensures.history ∙ ap (λ m. m.history) (ran.after ∙ after_is set c.args.script engine.opening c.as_slice.result.now engine.machine opening c.as_slice.ensures machine) in
+    c.book-book.ensures.history ∙ ap (λ m. m.history) (ran.after ∙ after_is set c.args.script engine.opening c.args.script.events engine.machine opening refl machine) in
     let finding = c.in_ok-ended.field-0 in
     let before = string_bytes c.args.out.now in
     let waiting = string_bytes c.run_events.new.out in
@@ -93,6 +93,6 @@ returns g c =
     subst (λ (r : Result Serializability AllocError). IfOk r (λ found. AddsEnd (draft_tree book.set) book.opening (history_of book.rows) found waiting later))
     is c.push_findings_before-ended.ensures.ok in
     subst (λ (d : Draft). WritesSoFar (MakesRun (draft_tree d) c.args.script before) later failed old new (Ok finding)) c.draft-draft.ensures.same
-    (comes_to_its_end set c.args.script engine.opening c.as_slice.result.now engine.machine opening c.as_slice.ensures machine
+    (comes_to_its_end set c.args.script engine.opening c.args.script.events engine.machine opening refl machine
     before waiting failed old new later (draft_tree book.set) book.opening (history_of book.rows) (ap draft_tree same)
     (c.book-book.ensures.opening ∙ (ran.over.1 ∙ opening)) history ran.lines finding c.read_history.ensures end)
