@@ -7,7 +7,8 @@ ghost use Rattle.conflict_pairs.specs.Classes.{AreLikePlaces};
 ghost use Rattle.conflict_pairs.specs.Pairing.{IsAskedAt, asked_at};
 
 use crate::alike::{are_alike, cover_classes_of};
-use crate::interning::{Interner, intern_all, mix, number_at};
+use crate::hashes::{access_hash, mix};
+use crate::interning::{Interner, intern_all, number_at};
 use crate::pairing::PlacePair;
 use prog_check::Path;
 use prog_paths::Placed;
@@ -54,7 +55,7 @@ impl<'a> Interner for Numbering<'a> {
     ghost serves = { λ numbering place first. AreOneClass numbering.classes.now place first };
 
     fn hash(&self, place: &Placed) -> usize {
-        mix(self.classes[place.node], place.number)
+        mix(self.classes[place.node], access_hash(&place.access))
     }
 
     fn is_served(&self, place: &Placed, first: &Placed) -> bool {

@@ -45,24 +45,21 @@ pub struct Interned<V> {
     pub numbers: Vec<u32>,
 }
 
-// How many numbers of values are remembered. It is a prime.
-const SLOTS: usize = 16_381;
+// How many numbers of values are remembered: a small set pays no more for empty slots.
+const FEW_SLOTS: usize = 16_384;
+
+// So many are remembered for more keys than there are few slots.
+const MANY_SLOTS: usize = 131_072;
 
 // The golden section of all numbers, which sets near ones far apart.
 const SPREAD: usize = 0x9E37_79B9_7F4A_7C15;
 
-fn slot_of(hash: usize) -> usize
-    ensures { result < SLOTS }
+/// The slot of a hash among so many. Any of them may come out where their number is a power of 2.
+fn slot_of(slots: usize, hash: usize) -> usize
+    requires { 0 < slots }
+    ensures { result < slots }
 {
-    (hash.wrapping_mul(SPREAD) >> 32) % SLOTS
-}
-
-// A prime, so that few pairs of numbers are mixed to the same one.
-const FACTOR: usize = 65_537;
-
-/// A hash of what was seen and one number more.
-pub fn mix(seen: usize, number: usize) -> usize {
-    seen.wrapping_mul(FACTOR).wrapping_add(number)
+    (hash.wrapping_mul(SPREAD) >> 32) & (slots - 1)
 }
 
 /// The number for the key of this place.
@@ -81,31 +78,36 @@ pub struct Slots {
 }
 
 impl Model for Slots {
-    ghost use Rattle.std.specs.Prelude.{◌≡◌, length};
-    ghost use Rattle.conflict_pairs.specs.declared.interning.TheConstants.{SLOTS};
+    ghost use Rattle.std.specs.Prelude.{◌<◌, length};
 
     ghost Value = { Unit {0} };
 
     ghost view = { λ s. tt };
 
-    ghost invariant = { λ s. length s.numbers.items ≡ SLOTS };
+    ghost invariant = { λ s. 0 < length s.numbers.items };
 }
 
 impl Slots {
-    /// Slots that remember the number 0.
-    pub fn new(alloc: Global) -> Result<Slots, AllocError> {
-        let numbers = vec![in alloc; 0; SLOTS]?;
+    /// Slots that remember the number 0, for values of so many keys.
+    pub fn for_keys(alloc: Global, keys: usize) -> Result<Slots, AllocError> {
+        let slots = if keys > FEW_SLOTS {
+            MANY_SLOTS
+        } else {
+            FEW_SLOTS
+        };
+        let numbers = vec![in alloc; 0; slots]?;
         Ok(Slots { numbers })
     }
 
     /// The number that the slot of a hash remembers.
     pub fn get(&self, hash: usize) -> u32 {
-        self.numbers[slot_of(hash)]
+        self.numbers[slot_of(self.numbers.len(), hash)]
     }
 
     /// Remembers a number in the slot of a hash, in place of the one there.
     pub fn set(&mut self, hash: usize, number: u32) {
-        self.numbers[slot_of(hash)] = number;
+        let slot = slot_of(self.numbers.len(), hash);
+        self.numbers[slot] = number;
     }
 }
 
@@ -176,7 +178,7 @@ pub fn intern_all<I: Interner>(
     ensures { IfOk result (λ interned. AreInterned (I.is_sound interner.now)
         (I.serves interner.now) keys.now interned.values.items interned.numbers.items) }
 {
-    let mut slots = Slots::new(alloc)?;
+    let mut slots = Slots::for_keys(alloc, keys.len())?;
     let mut values = Vec::new(alloc);
     let mut numbers = Vec::with_capacity(alloc, keys.len())?;
     let mut last = 0;

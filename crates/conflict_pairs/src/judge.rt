@@ -231,7 +231,7 @@ pub fn verdicts_of(
     ensures { IfOk result (λ judged. ArePairsJudged paths.now places.now pairs.now
         judged.values.items judged.numbers.items) }
 {
-    let mut slots = Slots::new(alloc)?;
+    let mut slots = Slots::for_keys(alloc, pairs.len())?;
     let mut values = Vec::new(alloc);
     let mut numbers = Vec::with_capacity(alloc, pairs.len())?;
     for pair in pairs {

@@ -10,6 +10,7 @@ mod classes;
 mod condition;
 mod cover;
 mod fault;
+mod hashes;
 mod interning;
 mod judge;
 mod laws;

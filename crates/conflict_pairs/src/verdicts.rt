@@ -3,19 +3,9 @@ ghost use Rattle.std.specs.Prelude.{◌≡◌};
 ghost use Rattle.conflict_pairs.specs.Verdicts.{can_meet, is_exposed};
 
 use crate::chain::Chain;
-use crate::interning::mix;
-use order_facts::{Node, Sample};
+use crate::hashes::{mix, node_hash};
+use order_facts::Sample;
 use prog_tree::Sequence;
-
-fn node_hash(node: Node) -> usize {
-    match node {
-        Node::Mine(index) => mix(1, index),
-        Node::MineUnknown(index) => mix(2, index),
-        Node::Theirs(index) => mix(3, index),
-        Node::TheirsUnknown(index) => mix(4, index),
-        Node::Number(number) => number.unsigned_abs() as usize,
-    }
-}
 
 /// The hash of a chain: of its first two nodes.
 fn chain_hash(chain: &Chain) -> usize {

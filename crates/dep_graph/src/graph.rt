@@ -52,8 +52,8 @@ fn slot_of(mark: Mark) -> usize
     mark.y % REMEMBERED
 }
 
-/// The edges that a table's questions give. One node asks much of another, and mostly with one
-/// mark, which is entered once.
+/// The edges that a table's questions give. Accesses that never meet give none. One node asks much
+/// of another, and mostly with one mark, which is entered once.
 fn edges_of(alloc: Global, table: &PairTable) -> Result<EdgeTables, AllocError>
     ensures edges { IfOk result
         (λ e. IsSquareOf e.edges table.now.nodes (has_edge (marks_of table.now).marks)) }
@@ -64,6 +64,9 @@ fn edges_of(alloc: Global, table: &PairTable) -> Result<EdgeTables, AllocError>
     let none = no_mark();
     let mut last = [none; REMEMBERED];
     for n in 0..table.len() {
+        if !table.verdict(n).can_meet() {
+            continue;
+        }
         let mark = entry_mark(table, n);
         let slot = slot_of(mark);
         if !is_same(last[slot], mark) {

@@ -1,11 +1,13 @@
-use Rattle.std.proofs.Common.{ℕ, ◌<◌, ◌∙◌, length, subst, arith}
+use Rattle.std.proofs.Common.{◌≡◌, ℕ, ◌<◌, ◌∙◌, false, length, sym, subst, ap, arith}
 use Rattle.std.proofs.lemmas.List.{length-map, length-replicate, length-set}
 use Rattle.std.proofs.lemmas.List.Elements.{All-replicate, All-set, All-weaker}
 use Rattle.order_facts.specs.Square.{IsEmptySquare}
 use Rattle.prog_paths.specs.declared.accesses.mark.Mark.{Mark}
 use Rattle.prog_paths.specs.Marks.{gives_edge, gives_vulnerable, EntersMark}
-use Rattle.dep_graph.specs.Marks.{mark_of, marks_of}
+use Rattle.conflict_pairs.specs.Verdicts.{can_meet}
+use Rattle.dep_graph.specs.Marks.{mark_at, mark_of, marks_of}
 use Rattle.dep_graph.proofs.Entering.{IsSquareOf-begun, IsSquareOf-entered, IsEntered, IsEntered-none, IsEntered-kept, IsEntered-own, EntersMark-known}
+use Rattle.dep_graph.proofs.Entries.{entry_at, apart-gives}
 use Rattle.dep_graph.proofs.graph.edges_of.Goals as goal
 use Rattle.dep_graph.proofs.graph.edges_of.Goals.{then-not-is_same, else-not-is_same}
 
@@ -20,6 +22,27 @@ loop-n-init c =
       vulnerable = IsSquareOf-begun gives_vulnerable marks t.nodes tables.vulnerable (subst (λ (n : ℕ). IsEmptySquare tables.vulnerable n) c.nodes.ensures c.in_ok-tables.ensures.vulnerable);
       slots = length-replicate 512 none;
       remembered = All-replicate (IsEntered tables) 512 none (IsEntered-none tables none c.no_mark-none.ensures.forward c.no_mark-none.ensures.backward c.no_mark-none.ensures.vulnerable);
+    }
+
+pub loop-n-preserved-then-not-can_meet : goal.loop-n-preserved-then-not-can_meet
+loop-n-preserved-then-not-can_meet c =
+    let t = c.args.table.now in
+    let marks = (marks_of t).marks in
+    let n = c.loop-n.n in
+    let here : n < length t.entries = omega (arith, c.loop-n-test.true, c.len-n-end.ensures) in
+    let inside : n < length marks = omega (arith, here, length-map t.entries mark_of) in
+    let before = c.loop-n.invariant in
+    let old = c.loop-n.tables in
+    let e = entry_at t.entries n here in
+    let apart : can_meet e.entry.verdict ≡ false = ap can_meet (sym (c.verdict.ensures e.entry e.is)) ∙ sym c.can_meet.ensures ∙ c.if-not-can_meet.true in
+    let nothing = apart-gives e.entry apart in
+    let entered = IsEntered-none old (mark_of e.entry) nothing.forward nothing.backward nothing.vulnerable in
+    let made = EntersMark-known old (mark_at marks n) (subst (λ (m : Mark). IsEntered old m) (sym e.gives) entered) in
+    record {
+      edges = IsSquareOf-entered gives_edge marks t.nodes n old.edges old.edges inside before.edges made.edges;
+      vulnerable = IsSquareOf-entered gives_vulnerable marks t.nodes n old.vulnerable old.vulnerable inside before.vulnerable made.vulnerable;
+      slots = before.slots;
+      remembered = before.remembered;
     }
 
 pub loop-n-preserved : goal.loop-n-preserved
