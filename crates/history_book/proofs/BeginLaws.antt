@@ -1,15 +1,13 @@
 -- Begins at a number.
 use Rattle.std.proofs.Common.{◌≡◌, ℕ, ◌+◌, ◌<◌, ◌≤◌, ◌==◌, nat_lt, Bool, true, false, cond, leb, true≢false, ◌⊎◌, inl, inr, if◌then◌else◌, List, [], ◌∷◌, ◌++◌, length, refl, ap, sym, ◌∙◌, arith}
 use Rattle.std.specs.Prelude.{All, Option, Some, None, ℤ, nat_le, not, ◌||◌, slice_get}
-use Rattle.std.specs.BTreeMap.{is_at, insert_entry}
-use Rattle.std.specs.Cmp.{nat_cmp_is}
+use Rattle.std.specs.BTreeMap.{insert_entry}
 use Rattle.std.specs.List.Sorted.{IsStrictlySortedBy}
-use Rattle.std.specs.Map.{keys_of, lookup}
+use Rattle.std.specs.Map.{keys_of}
 use Rattle.std.specs.Option.{option_map, option_or}
-use Rattle.std.specs.Ordering.{nat_cmp, is_eq}
-use Rattle.std.specs.declared.cmp.Ordering.TheVariants.{Greater}
+use Rattle.std.specs.Ordering.{nat_cmp}
 use Rattle.std.proofs.lemmas.Bool.Decides.{nat_tests, leb_tells}
-use Rattle.std.proofs.lemmas.List.Elements.{All-head, All-tail, All-weaker}
+use Rattle.std.proofs.lemmas.List.Elements.{All-weaker}
 use Rattle.std.proofs.lemmas.Option.{slice_get-map}
 use Rattle.prog_tree.specs.declared.program.Program.{Program}
 use Rattle.prog_tree.specs.Number.{IsI64}
@@ -95,16 +93,9 @@ allowed v start program args none = go (slice_get v.set.programs.items program) 
 
 -- ---- the book after a begin
 
--- the next number is that of no active instance
-pub unused_number : (v : BookView) → IsTrueBook v → lookup (is_at (nat_cmp v.begun)) v.active ≡ None
-unused_number v book = go v.active (All-weaker (IsTrueActive v) (λ entry. entry.0 < v.begun) (λ entry old. old.number) v.active book.active)
-  where
-    go : (es : List Entry) → All (λ e. e.0 < v.begun) es → lookup (is_at (nat_cmp v.begun)) es ≡ None
-    go [] below = refl
-    go (e ∷ es) below =
-        let P = λ (x : Entry). x.0 < v.begun in
-        let here : e.0 < v.begun = All-head P e es below in
-        ap (λ o. cond (is_eq o) (Some e.1) (lookup (is_at (nat_cmp v.begun)) es)) (sym (nat_cmp_is v.begun e.0 Greater here)) ∙ go es (All-tail P e es below)
+-- the next number is above those of all active instances
+pub below_begun : (v : BookView) → IsTrueBook v → All (λ entry. entry.0 < v.begun) v.active
+below_begun v book = All-weaker (IsTrueActive v) (λ entry. entry.0 < v.begun) (λ entry old. old.number) v.active book.active
 
 -- the active instances
 pub begun-active : (v : BookView) (start program : ℕ) (args given : List ℤ) (active : List Entry) → IsTrueBook v → given ≡ args →
@@ -113,9 +104,7 @@ pub begun-active : (v : BookView) (start program : ℕ) (args given : List ℤ) 
 begun-active v start program args given active book same is =
     let i : Instance = record { program = program; args = given; start = start } in
     let next : i ≡ instance_at start program args = λ k. record { program = program; args = same k; start = start } in
-    let below : All (λ entry. entry.0 < v.begun) v.active =
-    All-weaker (IsTrueActive v) (λ entry. entry.0 < v.begun) (λ entry old. old.number) v.active book.active in
-    is ∙ insert_last v.active v.begun i below ∙ ap (λ x. v.active ++ (v.begun, x) ∷ []) next
+    is ∙ insert_last v.active v.begun i (below_begun v book) ∙ ap (λ x. v.active ++ (v.begun, x) ∷ []) next
 
 pub true-admitted :
     (v : BookView) (start program : ℕ) (args : List ℤ) (active : List Entry) → IsTrueBook v → begin_at_fault_of v start program args ≡ None → All IsI64 args →

@@ -11,6 +11,7 @@ pub mod EndingLaws
 pub mod FitLaws
 pub mod ForwardLaws
 pub mod FoundLaws
+pub mod FreeLaws
 pub mod HistoryLaws
 pub mod HorizonLaws
 pub mod InTurn

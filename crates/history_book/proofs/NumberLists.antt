@@ -1,15 +1,12 @@
 -- Whether, and how many times, a number stands in a list.
 use Rattle.std.proofs.Common.{Some, ◌≡◌, ◌≢◌, ℕ, zero, suc, ◌+◌, ◌<◌, ◌≤◌, ◌==◌, ◌&&◌, ◌||◌, Bool, true, false, List, [], ◌∷◌, ◌++◌, length, take, drop, get_or, set, reverse, ◌⊎◌, inl, inr, refl, sym, ap, ◌∙◌, subst, arith, nat_cmp, nat_lt, if◌then◌else◌, All}
 use Rattle.std.proofs.Math.Bool.{or_assoc, or_comm, or_self_left}
-use Rattle.std.proofs.lemmas.Bool.{eq-eqb, ne_eqb, cases_Bool, cases_lt, false≢true}
+use Rattle.std.proofs.lemmas.Bool.{eq-eqb, cases_Bool, cases_lt, false≢true}
 use Rattle.std.proofs.lemmas.Bool.Decides.{nat_tests, eqb_tells}
 use Rattle.std.proofs.lemmas.List.{get_or_past, take_all, take-append-le, take_more, drop_more, reverse-append, get_or-set_same, get_or-set_other}
 use Rattle.std.proofs.lemmas.List.Recursion.{or_at, or_push}
 use Rattle.std.specs.BTreeSet.{insert_key}
 use Rattle.std.specs.BTreeMap.Range.{IsLtBy}
-use Rattle.std.specs.Cmp.{unsigned_tied}
-use Rattle.std.specs.List.{list_any}
-use Rattle.std.specs.Ordering.{eq_by_cmp}
 use Rattle.std.specs.Prelude.{slice_get}
 use Rattle.std.proofs.lemmas.Option.{slice_get_within, get_or_from_slice_get}
 use Rattle.history_book.specs.Orders.{is_one_of}
@@ -140,76 +137,39 @@ above-all keys k n h one =
     let less = rw w.2 at (h w.0 0 w.1) in
     grind (arith, nat_tests)
 
-pub free-yes : (keys waits : List ℕ) (number : ℕ) → 0 < number → number < length waits → get_or waits number 0 ≡ 0
-    → ((n : ℕ) → is_one_of keys n ≡ ((nat_lt 0 n && nat_lt n (length waits) && get_or waits n 0 == 0) && nat_lt n number))
-    → (n : ℕ) → is_one_of (keys ++ number ∷ []) n ≡ ((nat_lt 0 n && nat_lt n (length waits) && get_or waits n 0 == 0) && nat_lt n (number + 1))
-free-yes keys waits number first inside none is n = one-push keys number n ∙ rw (is n) (go (eqb_tells number n))
-  where
-    go : Same number n
-        → (((nat_lt 0 n && nat_lt n (length waits) && get_or waits n 0 == 0) && nat_lt n number) || number == n) ≡ ((nat_lt 0 n && nat_lt n (length waits) && get_or waits n 0 == 0) && nat_lt n (number + 1))
-    go (inl e) = let same = ap (λ m. get_or waits m 0) e.1 in grind (arith, nat_tests)
-    go (inr e) = let apart = e.1 in grind (arith, nat_tests)
-
-pub free-no : (keys waits : List ℕ) (number : ℕ) → get_or waits number 0 ≢ 0
-    → ((n : ℕ) → is_one_of keys n ≡ ((nat_lt 0 n && nat_lt n (length waits) && get_or waits n 0 == 0) && nat_lt n number))
-    → (n : ℕ) → is_one_of keys n ≡ ((nat_lt 0 n && nat_lt n (length waits) && get_or waits n 0 == 0) && nat_lt n (number + 1))
-free-no keys waits number some is n = is n ∙ go (eqb_tells number n)
-  where
-    go : Same number n
-        → ((nat_lt 0 n && nat_lt n (length waits) && get_or waits n 0 == 0) && nat_lt n number) ≡ ((nat_lt 0 n && nat_lt n (length waits) && get_or waits n 0 == 0) && nat_lt n (number + 1))
-    go (inl e) = let same = ap (λ m. get_or waits m 0) e.1 in let more = ne_eqb (get_or waits number 0) 0 some in grind (arith, nat_tests)
-    go (inr e) = let apart = e.1 in grind (arith, nat_tests)
-
-turned : (a b : ℕ) → (a == b) ≡ (b == a)
-turned a b = go (eqb_tells a b) (eqb_tells b a)
-  where
-    go : Same a b → Same b a → (a == b) ≡ (b == a)
-    go (inl e) (inl d) = e.0 ∙ sym d.0
-    go (inr e) (inr d) = e.0 ∙ sym d.0
-    go (inl e) (inr d) = absurd (d.1 (sym e.1))
-    go (inr e) (inl d) = absurd (e.1 (sym d.1))
-
-asked : (numbers : List ℕ) (n : ℕ) → list_any (eq_by_cmp nat_cmp n) numbers ≡ is_one_of numbers n
-asked [] n = refl
-asked (m ∷ ms) n =
-    ap (λ b. b || list_any (eq_by_cmp nat_cmp n) ms) (unsigned_tied n m ∙ turned n m) ∙ ap (λ b. (m == n) || b) (asked ms n)
-
--- what the order of numbers does not tell from a number is that number
-pub one-in-set : (keys numbers : List ℕ) → ((n : ℕ) → list_any (eq_by_cmp nat_cmp n) keys ≡ list_any (eq_by_cmp nat_cmp n) numbers)
-    → (n : ℕ) → is_one_of keys n ≡ is_one_of numbers n
-one-in-set keys numbers same n = sym (asked keys n) ∙ same n ∙ asked numbers n
-
 and-or : (o b d z : Bool) → z ≡ true → ((o || (b && z)) || d) ≡ (o || ((b || d) && z))
 and-or true b d z h = refl
 and-or false true d z h = rw h refl
 and-or false false true z h = rw h refl
 and-or false false false z h = refl
 
-pub more-yes : (old keys waits numbers : List ℕ) (i : ℕ) → i < length numbers → get_or waits (get_or numbers i 0) 0 ≡ 0
-    → ((n : ℕ) → is_one_of keys n ≡ (is_one_of old n || (is_one_of (take i numbers) n && get_or waits n 0 == 0)))
-    → (n : ℕ) → is_one_of (insert_key nat_cmp keys (get_or numbers i 0)) n ≡ (is_one_of old n || (is_one_of (take (i + 1) numbers) n && get_or waits n 0 == 0))
-more-yes old keys waits numbers i inside none is n = one-insert keys (get_or numbers i 0) n ∙ rw (is n, one-more numbers i n inside) (go (eqb_tells (get_or numbers i 0) n) (cases_Bool (is_one_of old n)) (cases_Bool (is_one_of (take i numbers) n)))
-  where
-    go : Same (get_or numbers i 0) n
-        → Either (is_one_of old n) → Either (is_one_of (take i numbers) n)
-        → ((is_one_of old n || (is_one_of (take i numbers) n && get_or waits n 0 == 0)) || get_or numbers i 0 == n) ≡ (is_one_of old n || ((is_one_of (take i numbers) n || get_or numbers i 0 == n) && get_or waits n 0 == 0))
-    go (inl e) _ _ = and-or (is_one_of old n) (is_one_of (take i numbers) n) (get_or numbers i 0 == n) (get_or waits n 0 == 0) (subst (λ m. (get_or waits m 0 == 0) ≡ true) e.1 (eq-eqb _ 0 none))
-    go (inr e) (inl o) _ = rw o refl
-    go (inr e) (inr o) (inl t) = rw (o, t, e.0) (or_comm (get_or waits n 0 == 0) false)
-    go (inr e) (inr o) (inr t) = rw (o, t, e.0) refl
+-- a set has besides what it had those of the first numbers that pass a test
+module _ (test : ℕ → Bool) (old keys numbers : List ℕ) (i : ℕ) where
+  pub more-yes : i < length numbers → test (get_or numbers i 0) ≡ true
+      → ((n : ℕ) → is_one_of keys n ≡ (is_one_of old n || (is_one_of (take i numbers) n && test n)))
+      → (n : ℕ) → is_one_of (insert_key nat_cmp keys (get_or numbers i 0)) n ≡ (is_one_of old n || (is_one_of (take (i + 1) numbers) n && test n))
+  more-yes inside passes is n = one-insert keys (get_or numbers i 0) n ∙ rw (is n, one-more numbers i n inside) (go (eqb_tells (get_or numbers i 0) n) (cases_Bool (is_one_of old n)) (cases_Bool (is_one_of (take i numbers) n)))
+    where
+      go : Same (get_or numbers i 0) n
+          → Either (is_one_of old n) → Either (is_one_of (take i numbers) n)
+          → ((is_one_of old n || (is_one_of (take i numbers) n && test n)) || get_or numbers i 0 == n) ≡ (is_one_of old n || ((is_one_of (take i numbers) n || get_or numbers i 0 == n) && test n))
+      go (inl e) _ _ = and-or (is_one_of old n) (is_one_of (take i numbers) n) (get_or numbers i 0 == n) (test n) (subst (λ m. test m ≡ true) e.1 passes)
+      go (inr e) (inl o) _ = rw o refl
+      go (inr e) (inr o) (inl t) = rw (o, t, e.0) (or_comm (test n) false)
+      go (inr e) (inr o) (inr t) = rw (o, t, e.0) refl
 
-pub more-no : (old keys waits numbers : List ℕ) (i : ℕ) → i < length numbers → get_or waits (get_or numbers i 0) 0 ≢ 0
-    → ((n : ℕ) → is_one_of keys n ≡ (is_one_of old n || (is_one_of (take i numbers) n && get_or waits n 0 == 0)))
-    → (n : ℕ) → is_one_of keys n ≡ (is_one_of old n || (is_one_of (take (i + 1) numbers) n && get_or waits n 0 == 0))
-more-no old keys waits numbers i inside some is n = is n ∙ rw (one-more numbers i n inside) (go (eqb_tells (get_or numbers i 0) n) (cases_Bool (is_one_of old n)) (cases_Bool (is_one_of (take i numbers) n)))
-  where
-    go : Same (get_or numbers i 0) n
-        → Either (is_one_of old n) → Either (is_one_of (take i numbers) n)
-        → (is_one_of old n || (is_one_of (take i numbers) n && get_or waits n 0 == 0)) ≡ (is_one_of old n || ((is_one_of (take i numbers) n || get_or numbers i 0 == n) && get_or waits n 0 == 0))
-    go _ (inl o) _ = rw o refl
-    go _ (inr o) (inl t) = rw (o, t) refl
-    go (inl e) (inr o) (inr t) = let z : (get_or waits n 0 == 0) ≡ false = subst (λ m. (get_or waits m 0 == 0) ≡ false) e.1 (ne_eqb _ 0 some) in rw (o, t, e.0) (sym z)
-    go (inr e) (inr o) (inr t) = rw (o, t, e.0) refl
+  pub more-no : i < length numbers → test (get_or numbers i 0) ≡ false
+      → ((n : ℕ) → is_one_of keys n ≡ (is_one_of old n || (is_one_of (take i numbers) n && test n)))
+      → (n : ℕ) → is_one_of keys n ≡ (is_one_of old n || (is_one_of (take (i + 1) numbers) n && test n))
+  more-no inside fails is n = is n ∙ rw (one-more numbers i n inside) (go (eqb_tells (get_or numbers i 0) n) (cases_Bool (is_one_of old n)) (cases_Bool (is_one_of (take i numbers) n)))
+    where
+      go : Same (get_or numbers i 0) n
+          → Either (is_one_of old n) → Either (is_one_of (take i numbers) n)
+          → (is_one_of old n || (is_one_of (take i numbers) n && test n)) ≡ (is_one_of old n || ((is_one_of (take i numbers) n || get_or numbers i 0 == n) && test n))
+      go _ (inl o) _ = rw o refl
+      go _ (inr o) (inl t) = rw (o, t) refl
+      go (inl e) (inr o) (inr t) = let z : test n ≡ false = subst (λ m. test m ≡ false) e.1 fails in rw (o, t, e.0) (sym z)
+      go (inr e) (inr o) (inr t) = rw (o, t, e.0) refl
 
 -- what a call wrote into the whole of a list
 pub written : {X : Type 0} (len : ℕ) (new old : List X) → len ≡ length old → length new ≡ length old → take len (new ++ drop (length new) old) ≡ new

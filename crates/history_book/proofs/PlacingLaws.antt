@@ -1,13 +1,12 @@
 -- An order in the making: what is placed, for how many each number waits, and which are free.
-use Rattle.std.proofs.Common.{◌≡◌, ◌≢◌, ℕ, zero, suc, ◌+◌, ◌-◌, ◌<◌, ◌≤◌, ◌==◌, ◌&&◌, ◌||◌, Bool, true, false, not, List, [], ◌∷◌, ◌++◌, length, get_or, slice_index, ◌⊎◌, inl, inr, refl, sym, ap, ◌∙◌, subst, arith, Some, nat_cmp, nat_lt, All}
+use Rattle.std.proofs.Common.{◌≡◌, ◌≢◌, ℕ, zero, suc, ◌+◌, ◌-◌, ◌<◌, ◌≤◌, ◌==◌, ◌&&◌, ◌||◌, Bool, true, false, not, List, [], ◌∷◌, ◌++◌, length, get_or, slice_index, ◌⊎◌, inl, inr, refl, sym, ap, ◌∙◌, subst, arith, Some, nat_lt}
 use Rattle.std.specs.List.{range_with_len}
-use Rattle.std.specs.BTreeMap.Range.{IsLtBy}
 use Rattle.std.proofs.lemmas.Bool.{eq-eqb, cases_Bool, false≢true}
 use Rattle.std.proofs.lemmas.Bool.Decides.{nat_tests, eqb_tells}
 use Rattle.history_book.specs.Orders.{is_one_of, is_free, first_free, placed_by, least_order}
 use Rattle.history_book.specs.Precedence.{behind, precedes}
 use Rattle.history_book.specs.Placing.{times, waits_from, AreWaits, HoldsBack, IsStuck}
-use Rattle.history_book.proofs.NumberLists.{Same, Either, one-push, times-none, times-some, above-all}
+use Rattle.history_book.proofs.NumberLists.{Same, Either, one-push, times-none, times-some}
 use Rattle.history_book.proofs.WaitLaws.{waits-placed, waits-some, all-placed}
 use Rattle.history_book.proofs.LeastFree.{first-free, left_of, left-placed, left-none, left-some, times-range}
 
@@ -110,7 +109,7 @@ module _ (lists : List (List ℕ)) (turn : ℕ) (placed waits : List ℕ) (p : �
   pub next-enough : (n : ℕ) → n < length waits → times n (behind lists p) ≤ slice_index waits n
   next-enough n h = let a = next-waits n in let b = now.counts.each n h in omega arith
 
-  module _ (above : All (IsLtBy nat_cmp p) keys) where
+  module _ (above : (m : ℕ) → is_one_of keys m ≡ true → p < m) where
     next-free : first_free (precedes lists) (all_of lists) placed (all_of lists) ≡ Some p
     next-free =
         let r = next-ready in
@@ -123,7 +122,7 @@ module _ (lists : List (List ℕ)) (turn : ℕ) (placed waits : List ℕ) (p : �
           where
             go : Same p q → Either (is_one_of keys q) → ⊥
             go (inl e) _ = let s = e.1 in absurd (omega arith)
-            go (inr e) (inl o) = let s = above-all keys p q above o in absurd (omega arith)
+            go (inr e) (inl o) = let s = above q o in absurd (omega arith)
             go (inr e) (inr o) = false≢true (rw (e.0, o) at h)
 
         least : (q : ℕ) → 1 ≤ q → q < p → is_free (precedes lists) (all_of lists) placed q ≡ false
@@ -164,7 +163,7 @@ module _ (lists : List (List ℕ)) (turn : ℕ) (placed waits : List ℕ) (p : �
           of_old : is_one_of keys n ≡ true → IsReady lists (placed ++ p ∷ []) n
           of_old o =
               let r = now.keys_ready n (let either : (b : Bool) → (b || is_one_of keys n) ≡ true = λ b. elim b as (λ x. (x || is_one_of keys n) ≡ true) [ true ↦ refl | false ↦ o ] in either (p == n)) in
-              let higher = above-all keys p n above o in
+              let higher = above n o in
               let apart : (p == n) ≡ false = grind (arith, nat_tests) in
               let a = next-waits n in
               let z = r.waits in

@@ -1,5 +1,6 @@
 -- How an order is found: what each number waits for, and where none is free.
-use Rattle.std.specs.Prelude.{◌≡◌, ◌≢◌, ℕ, ◌+◌, ◌<◌, ◌≤◌, ◌==◌, Bool, true, List, [], ◌∷◌, length, slice_index, if◌then◌else◌}
+use Rattle.std.specs.Prelude.{◌≡◌, ◌≢◌, ℕ, ◌+◌, ◌-◌, ◌<◌, ◌≤◌, ◌==◌, Bool, true, List, [], ◌∷◌, ◌++◌, length, slice_index, if◌then◌else◌, filter}
+use Rattle.std.specs.List.{range_with_len}
 use Rattle.history_book.specs.declared.orders.order.OrderFault.{OrderFault}
 use Rattle.history_book.specs.declared.orders.order.OrderFault.TheVariants.{Cycle, Memory}
 use Rattle.history_book.specs.Orders.{is_one_of, LeadsTo, IsCycle}
@@ -21,6 +22,29 @@ waits_from k (list ∷ lists) placed n =
 pub record AreWaits (lists : List (List ℕ)) (placed waits : List ℕ) : Type 0 where
   pub long : length waits ≡ length lists + 1
   pub each : (n : ℕ) → n < length waits → slice_index waits n ≡ waits_from 1 lists placed n
+
+-- the numbers from k on that wait for none, as they rise
+abbrev pub free_from : (waits : List ℕ) → (k : ℕ) → List ℕ
+free_from waits k = filter (λ n. slice_index waits n == 0) (range_with_len k (length waits - k))
+
+-- the number is the first from one on that waits for none
+pub record IsNextFree (waits : List ℕ) (from n : ℕ) : Type 0 where
+  pub from_on : from ≤ n
+  pub within : n < length waits
+  pub first : free_from waits from ≡ n ∷ free_from waits (n + 1)
+
+-- the numbers that are free: those that were passed over, and those from the next on that wait for none
+abbrev pub all_free : (passed waits : List ℕ) → (next : ℕ) → List ℕ
+all_free passed waits next = passed ++ free_from waits next
+
+-- all numbers of a list are less than a bound
+abbrev pub AreBelow : (bound : ℕ) → List ℕ → Type 0
+AreBelow bound numbers = (n : ℕ) → is_one_of numbers n ≡ true → n < bound
+
+-- the number is the first of the list and less than all others
+pub record IsLeastFirst (list others : List ℕ) (n : ℕ) : Type 0 where
+  pub first : list ≡ n ∷ others
+  pub less : (m : ℕ) → is_one_of others m ≡ true → n < m
 
 -- a number waits for others
 abbrev pub HasToWait : (waits : List ℕ) → ℕ → Type 0

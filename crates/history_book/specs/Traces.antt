@@ -1,5 +1,5 @@
 -- What each commit looked at and changed, and what of it depends on what.
-use Rattle.std.specs.Prelude.{◌≡◌, ◌≤◌, ℕ, zero, suc, Bool, not, ◌&&◌, List, [], map, Option, Some, slice_get, unwrap_or}
+use Rattle.std.specs.Prelude.{◌≡◌, ◌≤◌, ℕ, zero, suc, Bool, not, ◌&&◌, List, [], map, Some, slice_get, unwrap_or}
 use Rattle.std.specs.List.{list_any}
 use Rattle.prog_tree.specs.declared.cell.Cell.{Cell}
 use Rattle.prog_tree.specs.declared.look.Look.{Look}

@@ -1,11 +1,11 @@
 //! The active instances of a book, by their numbers and by their starts.
 
-ghost use Rattle.std.specs.Prelude.{◌≡◌, ◌<◌, ◌^◌, [], length, Some, None, option_copied, OnOk};
-ghost use Rattle.std.specs.Prelude.{OnErr};
+ghost use Rattle.std.specs.Prelude.{◌≡◌, ◌<◌, ◌^◌, [], length, All, option_copied, OnOk, OnErr};
 ghost use Rattle.std.specs.BTreeMap.{is_at, insert_entry};
 ghost use Rattle.std.specs.List.Sorted.{IsStrictlySortedBy};
 ghost use Rattle.std.specs.Map.{keys_of, lookup};
 ghost use Rattle.std.specs.Ordering.{nat_cmp};
+ghost use Rattle.history_book.specs.ActiveSet.{IsNoted};
 ghost use Rattle.history_book.specs.View.{least_start, without};
 
 use crate::instances::active::Active;
@@ -24,19 +24,38 @@ pub struct InstanceStart {
 #[derive(Debug, Drop)]
 pub struct ActiveSet {
     by_number: BTreeMap<u64, Active>,
-    by_start: BTreeSet<InstanceStart>,
+    // Those that began out of turn, with an older start than one that began before them.
+    out_of_turn: BTreeSet<InstanceStart>,
+    // No start is greater.
+    newest: u64,
 }
 
 impl Model for ActiveSet {
     ghost use Rattle.std.specs.Prelude.{ℕ, List};
-    ghost use Rattle.history_book.specs.ActiveSet.{AreStarts};
+    ghost use Rattle.history_book.specs.ActiveSet.{AreInTurn};
     ghost use Rattle.history_book.specs.History.{Instance};
 
     ghost Value = { List (ℕ × Instance) };
 
     ghost view = { λ s. s.by_number.entries };
 
-    ghost invariant = { λ s. AreStarts s.by_number.entries s.by_start };
+    ghost invariant = { λ s. AreInTurn s.by_number.entries s.out_of_turn s.newest };
+}
+
+// Keeps the start of an instance that begins now, where one that began before has a newer start.
+fn note(
+    out_of_turn: &mut BTreeSet<InstanceStart>,
+    newest: u64,
+    start: InstanceStart,
+) -> Result<(), AllocError>
+    ensures ok { OnOk result (IsNoted newest start out_of_turn.old out_of_turn.new) }
+    ensures err { OnErr result (out_of_turn.new.keys ≡ out_of_turn.old.keys) }
+{
+    if start.start >= newest {
+        return Ok(());
+    }
+    out_of_turn.insert(start)?;
+    Ok(())
 }
 
 impl ActiveSet {
@@ -45,7 +64,8 @@ impl ActiveSet {
     {
         ActiveSet {
             by_number: BTreeMap::new(alloc),
-            by_start: BTreeSet::new(alloc),
+            out_of_turn: BTreeSet::new(alloc),
+            newest: 0,
         }
     }
 
@@ -63,9 +83,9 @@ impl ActiveSet {
         self.by_number.get(&number)
     }
 
-    /// Adds an instance under a number that none has; without memory nothing changes.
+    /// Adds an instance under a number above all others; without memory nothing changes.
     pub fn insert(&mut self, number: u64, active: Active) -> Result<(), AllocError>
-        requires { lookup (is_at (nat_cmp number)) self.old ≡ None }
+        requires { All (λ e. e.0 < number) self.old }
         ensures ok { OnOk result (self.new ≡ insert_entry nat_cmp self.old number active) }
         ensures err { OnErr result (self.new ≡ self.old) }
         ensures ordered { IsStrictlySortedBy nat_cmp (keys_of self.new) }
@@ -74,11 +94,14 @@ impl ActiveSet {
             start: active.start,
             number,
         };
-        self.by_start.insert(start)?;
+        note(&mut self.out_of_turn, self.newest, start)?;
         match self.by_number.insert(number, active) {
-            Ok(_) => Ok(()),
+            Ok(_) => {
+                self.newest = self.newest.max(start.start);
+                Ok(())
+            }
             Err(_) => {
-                self.by_start.remove(&start);
+                self.out_of_turn.remove(&start);
                 Err(AllocError)
             }
         }
@@ -91,7 +114,7 @@ impl ActiveSet {
     {
         if let Some(active) = self.by_number.remove(&number) {
             let start = active.start;
-            self.by_start.remove(&InstanceStart { start, number });
+            self.out_of_turn.remove(&InstanceStart { start, number });
         }
     }
 
@@ -99,9 +122,13 @@ impl ActiveSet {
     pub fn least_start(&self, commits: u64) -> u64
         ensures { result ≡ least_start commits self.now }
     {
-        match self.by_start.first() {
-            Some(first) => first.start.min(commits),
-            None => commits,
+        let Some((_, first)) = self.by_number.first_key_value() else {
+            return commits;
+        };
+        let least = first.start.min(commits);
+        match self.out_of_turn.first() {
+            Some(other) => other.start.min(least),
+            None => least,
         }
     }
 }

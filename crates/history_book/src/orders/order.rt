@@ -2,15 +2,14 @@
 //! cycle that forbids it.
 
 ghost use Rattle.std.specs.Prelude.{nat_lt, ◌≡◌, ◌≢◌, ◌<◌, ◌≤◌, ◌+◌, ◌^◌, ◌==◌, ◌&&◌, ◌||◌, ℕ};
-ghost use Rattle.std.specs.Prelude.{Bool, true, [], drop, length, slice_index, Some, IfOk, IfErr};
-ghost use Rattle.std.specs.Prelude.{OnOk, ◌++◌, if◌then◌else◌};
-ghost use Rattle.std.specs.BTreeSet.{IsFromIterResult};
+ghost use Rattle.std.specs.Prelude.{Bool, true, [], ◌∷◌, length, slice_index, Some, IfOk, IfErr};
+ghost use Rattle.std.specs.Prelude.{max, OnOk, IfSome, IfNone, if◌then◌else◌};
 ghost use Rattle.std.specs.List.{IsFirstBest};
-ghost use Rattle.std.specs.Ordering.{nat_cmp};
 ghost use Rattle.history_book.specs.Orders.{is_one_of, least_order, IsCycle};
 ghost use Rattle.history_book.specs.Precedence.{precedes};
 ghost use Rattle.history_book.specs.Placing.{times, AreWaits, HasToWait, IsStuck, HasLeader};
-ghost use Rattle.history_book.specs.Placing.{AreLeaders, IsLed, IsWalk, IsOrderFault};
+ghost use Rattle.history_book.specs.Placing.{free_from, all_free, AreBelow, IsNextFree};
+ghost use Rattle.history_book.specs.Placing.{AreLeaders, IsLed, IsWalk, IsOrderFault, IsLeastFirst};
 
 use crate::orders::precedence::Precedence;
 use std::alloc::{AllocError, AllocFailed, Global};
@@ -68,7 +67,7 @@ impl Error for OrderFault {}
 
 // Counts each of some numbers once more.
 fn count_up(counts: &mut [u128], numbers: &[usize])
-    requires within { (n : ℕ) → is_one_of numbers.now n ≡ true → n < length counts.old }
+    requires within { AreBelow (length counts.old) numbers.now }
     requires room { (n : ℕ) → n < length counts.old
         → slice_index counts.old n + times n numbers.now < 2 ^ 128 }
     ensures { (n : ℕ) → n < length counts.old
@@ -81,7 +80,7 @@ fn count_up(counts: &mut [u128], numbers: &[usize])
 
 // Counts each of some numbers once less.
 fn count_down(counts: &mut [u128], numbers: &[usize])
-    requires within { (n : ℕ) → is_one_of numbers.now n ≡ true → n < length counts.old }
+    requires within { AreBelow (length counts.old) numbers.now }
     requires enough { (n : ℕ) → n < length counts.old
         → times n numbers.now ≤ slice_index counts.old n }
     ensures { (n : ℕ) → n < length counts.old
@@ -92,50 +91,59 @@ fn count_down(counts: &mut [u128], numbers: &[usize])
     }
 }
 
-// The numbers that wait for none, as they rise.
-fn free_list(alloc: Global, waits: &[u128]) -> Result<Vec<usize>, AllocError>
-    ensures { IfOk result (λ free. (n : ℕ) → is_one_of free.items n
-        ≡ (nat_lt 0 n && nat_lt n (length waits.now) && slice_index waits.now n == 0)) }
+// The first number from one on that waits for none.
+fn next_free(waits: &[u128], from: usize) -> Option<usize>
+    ensures some { IfSome result (IsNextFree waits.now from) }
+    ensures none { IfNone result (free_from waits.now from ≡ []) }
 {
-    let mut free = Vec::new(alloc);
-    for number in 1..waits.len() {
+    for number in from..waits.len() {
         if waits[number] == 0 {
-            free.push(number)?;
+            return Some(number);
         }
     }
-    Ok(free)
+    None
 }
 
-// The set of some numbers. That of numbers which rise is built without a search for each.
-fn set_of(alloc: Global, numbers: Vec<usize>) -> Result<BTreeSet<usize>, AllocError>
-    ensures { IfOk result (IsFromIterResult nat_cmp numbers.items) }
+// Takes out the least of the numbers that are free: of those that were passed over, which are less
+// than `next`, and of those from `next` on that wait for none.
+fn take_least(passed: &mut BTreeSet<usize>, waits: &[u128], next: usize) -> Option<usize>
+    requires passed { AreBelow next passed.old.keys }
+    requires next { next ≤ length waits.now }
+    ensures within { IfSome result (λ n. n < length waits.now) }
+    ensures least { IfSome result (λ n. IsLeastFirst (all_free passed.old.keys waits.now next)
+        (all_free passed.new.keys waits.now (max next (n + 1))) n) }
+    ensures none { IfNone result (all_free passed.old.keys waits.now next ≡ []) }
+    ensures passed { AreBelow next passed.new.keys }
 {
-    numbers.into_iter().collect(alloc)
+    match passed.pop_first() {
+        Some(number) => Some(number),
+        None => next_free(waits, next),
+    }
 }
 
-// The numbers that wait for none.
-fn free_numbers(alloc: Global, waits: &[u128]) -> Result<BTreeSet<usize>, AllocError>
-    ensures { IfOk result (λ free. (n : ℕ) → is_one_of free.keys n
-        ≡ (nat_lt 0 n && nat_lt n (length waits.now) && slice_index waits.now n == 0)) }
+// Whether a number waits for none and was passed over: it is less than `next`.
+fn is_passed(waits: &[u128], number: usize, next: usize) -> bool
+    requires { number < length waits.now }
+    ensures { result ≡ (slice_index waits.now number == 0 && nat_lt number next) }
 {
-    let free = free_list(alloc, waits)?;
-    set_of(alloc, free)
+    waits[number] == 0 && number < next
 }
 
-// Adds those of some numbers that wait for none.
+// Adds those of some numbers that wait for none and were passed over.
 fn free_more(
-    free: &mut BTreeSet<usize>,
+    passed: &mut BTreeSet<usize>,
     waits: &[u128],
     numbers: &[usize],
+    next: usize,
 ) -> Result<(), AllocError>
-    requires { (n : ℕ) → is_one_of numbers.now n ≡ true → n < length waits.now }
-    ensures { OnOk result ((n : ℕ) → is_one_of free.new.keys n
-        ≡ (is_one_of free.old.keys n
-        || (is_one_of numbers.now n && slice_index waits.now n == 0))) }
+    requires { AreBelow (length waits.now) numbers.now }
+    ensures { OnOk result ((n : ℕ) → is_one_of passed.new.keys n
+        ≡ (is_one_of passed.old.keys n
+        || (is_one_of numbers.now n && (slice_index waits.now n == 0 && nat_lt n next)))) }
 {
     for number in numbers {
-        if waits[*number] == 0 {
-            free.insert(*number)?;
+        if is_passed(waits, *number, next) {
+            passed.insert(*number)?;
         }
     }
     Ok(())
@@ -143,7 +151,7 @@ fn free_more(
 
 // Writes one number at each of some places.
 fn write_at(numbers: &mut [usize], places: &[usize], number: usize)
-    requires { (n : ℕ) → is_one_of places.now n ≡ true → n < length numbers.old }
+    requires { AreBelow (length numbers.old) places.now }
     ensures { (n : ℕ) → slice_index numbers.new n
         ≡ (if is_one_of places.now n then number else slice_index numbers.old n) }
 {
@@ -291,16 +299,18 @@ impl Precedence {
     {
         let alloc = self.allocator();
         let mut waits = self.waits()?;
-        let mut free = free_numbers(alloc, &waits)?;
+        let mut passed = BTreeSet::new(alloc);
+        let mut next = 1;
         let mut order = Vec::new(alloc);
         for _place in 0..self.len() {
-            let Some(number) = free.pop_first() else {
+            let Some(number) = take_least(&mut passed, &waits, next) else {
                 return Err(self.fault(&waits));
             };
             order.push(number)?;
+            next = next.max(number + 1);
             let behind = self.behind(number);
             count_down(&mut waits, behind);
-            free_more(&mut free, &waits, behind)?;
+            free_more(&mut passed, &waits, behind, next)?;
         }
         Ok(order)
     }

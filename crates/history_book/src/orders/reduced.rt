@@ -12,7 +12,7 @@ ghost use Rattle.history_book.specs.Precedence.{precedes};
 
 use crate::orders::precedence::Precedence;
 use crate::orders::trace::{Sight, Trace, region_takes_in};
-use crate::orders::writers::{Writers, first_missed, last_seen};
+use crate::orders::writers::{Writers, count_seen, first_missed, last_seen};
 use prog_tree::{Cell, Region, RisingCells};
 use std::alloc::{AllocError, Global};
 
@@ -105,8 +105,9 @@ fn add_reader(
     ensures { OnOk result
         (AddsPairs (reader_pairs reader start writers.now) precedence.old precedence.new) }
 {
-    add_seen(precedence, reader, last_seen(writers, start))?;
-    add_missed(precedence, reader, first_missed(writers, start))
+    let seen = count_seen(writers, start);
+    add_seen(precedence, reader, last_seen(writers, seen))?;
+    add_missed(precedence, reader, first_missed(writers, seen))
 }
 
 // Adds what a look at a cell says of its reader.

@@ -1,6 +1,6 @@
 //! The commits that changed each cell.
 
-ghost use Rattle.std.specs.Prelude.{◌≡◌, ◌≤◌, [], length, IfOk, OnOk};
+ghost use Rattle.std.specs.Prelude.{◌≡◌, ◌≤◌, ℕ, [], length, IfOk, OnOk};
 ghost use Rattle.std.specs.List.Sorted.{IsStrictlySortedBy};
 ghost use Rattle.prog_tree.specs.Table.{cell_cmp, cells_of, is_same_cell, is_cell_among};
 ghost use Rattle.history_book.specs.Traces.{changed_at};
@@ -91,7 +91,7 @@ impl Writers {
 }
 
 // How many of some numbers are at most a number.
-fn count_seen(numbers: &[usize], start: u64) -> usize
+pub(crate) fn count_seen(numbers: &[usize], start: u64) -> usize
     requires { RiseFrom 0 numbers.now }
     ensures bound { result ≤ length numbers.now }
     ensures cut { IsCutBy start numbers.now result }
@@ -99,24 +99,24 @@ fn count_seen(numbers: &[usize], start: u64) -> usize
     numbers.partition_point(|number| *number as u64 <= start)
 }
 
-// The last of some numbers that is at most `start`.
-pub(crate) fn last_seen(numbers: &[usize], start: u64) -> Option<usize>
-    requires { RiseFrom 0 numbers.now }
-    ensures { result ≡ last_seen start numbers.now }
+// The last of some numbers that is at most `start`, where so many are.
+pub(crate) fn last_seen(numbers: &[usize], count: usize) -> Option<usize>
+    requires { count ≤ length numbers.now }
+    ensures { (start : ℕ) → IsCutBy start numbers.now count
+        → result ≡ last_seen start numbers.now }
 {
-    let count = count_seen(numbers, start);
     if count == 0 {
         return None;
     }
     Some(numbers[count - 1])
 }
 
-// The first of some numbers that is above `start`.
-pub(crate) fn first_missed(numbers: &[usize], start: u64) -> Option<usize>
-    requires { RiseFrom 0 numbers.now }
-    ensures { result ≡ first_missed start numbers.now }
+// The first of some numbers that is above `start`, where so many are not.
+pub(crate) fn first_missed(numbers: &[usize], count: usize) -> Option<usize>
+    requires { count ≤ length numbers.now }
+    ensures { (start : ℕ) → IsCutBy start numbers.now count
+        → result ≡ first_missed start numbers.now }
 {
-    let count = count_seen(numbers, start);
     if count == numbers.len() {
         return None;
     }

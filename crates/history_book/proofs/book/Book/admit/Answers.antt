@@ -1,11 +1,11 @@
 use Rattle.std.proofs.Common.{◌≡◌, ◌+◌, List, None, sym, ap, subst}
 use Rattle.history_book.specs.View.{BookView, begin_at_fault_of, begun_at}
 use Rattle.history_book.proofs.ActiveLaws.{Entry}
-use Rattle.history_book.proofs.BeginLaws.{unused_number, begun-active, true-admitted}
+use Rattle.history_book.proofs.BeginLaws.{below_begun, begun-active, true-admitted}
 use Rattle.history_book.proofs.book.Book.admit.Goals as goal
 
 pub insert-requires : goal.insert-requires
-insert-requires c = unused_number _ c.self.invariant.0
+insert-requires c = below_begun _ c.self.invariant.0
 
 pub invariant_of-self-2 : goal.invariant_of-self-2
 invariant_of-self-2 c =

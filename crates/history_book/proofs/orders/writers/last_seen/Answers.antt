@@ -4,11 +4,11 @@ use Rattle.history_book.proofs.WriterLaws.{seen_none, seen_last}
 use Rattle.history_book.proofs.orders.writers.last_seen.Goals as goal
 
 pub returns-then-count-eq0 : goal.returns-then-count-eq0
-returns-then-count-eq0 c =
-    seen_none c.args.start c.args.numbers.now (subst (IsCutBy c.args.start c.args.numbers.now) c.if-count-eq0.true c.count_seen-count.ensures.cut)
+returns-then-count-eq0 c = λ start cut.
+    seen_none start c.args.numbers.now (subst (IsCutBy start c.args.numbers.now) c.if-count-eq0.true cut)
 
 pub returns : goal.returns
-returns c =
-    let count = c.count_seen-count.result in
+returns c = λ start cut.
+    let count = c.args.count in
     let one : count ≡ suc (count - 1) = omega (arith, c.if-count-eq0.false) in
-    seen_last c.args.start c.args.numbers.now (count - 1) (subst (IsCutBy c.args.start c.args.numbers.now) one c.count_seen-count.ensures.cut) (omega (arith, one, c.count_seen-count.ensures.bound))
+    seen_last start c.args.numbers.now (count - 1) (subst (IsCutBy start c.args.numbers.now) one cut) (omega (arith, one, c.requires))

@@ -1,17 +1,26 @@
-use Rattle.std.proofs.Common.{◌≡◌, ℕ, List, length, arith, subst}
-use Rattle.history_book.proofs.NumberLists.{none-left, written}
+use Rattle.std.proofs.Common.{◌≡◌, ◌+◌, ℕ, List, [], length, max, arith, rules, ap, subst}
+use Rattle.std.proofs.lemmas.Bool.{false≢true}
+use Rattle.history_book.specs.Precedence.{behind}
+use Rattle.history_book.specs.Placing.{all_free}
+use Rattle.history_book.proofs.FreeLaws.{start-free, freed-below, freed-more}
+use Rattle.history_book.proofs.NumberLists.{written}
 use Rattle.history_book.proofs.PlacingLaws.{IsPlacing, start-placing, stuck-placing, end-placing, next-placing, next-enough}
 use Rattle.history_book.proofs.orders.precedence.Precedence.order.Goals as goal
 
 pub loop-place-init : goal.loop-place-init
 loop-place-init c =
-    let free = rw c.deref.ensures.value at c.in_ok-free.ensures in
-    rw c.new-order.ensures.items (start-placing c.args.self.now c.in_ok-waits.waits.items c.in_ok-free.free.keys c.in_ok-waits.ensures free)
+    let waits = c.in_ok-waits.waits.items in
+    let long = c.in_ok-waits.ensures.long in
+    rw (c.new-order.ensures.items, c.new-passed.ensures.empty) (record {
+      placing = start-placing c.args.self.now waits (all_free [] waits 1) c.in_ok-waits.ensures (start-free waits);
+      below = λ n h. absurd (false≢true h);
+      within = omega arith;
+    })
 
 pub fault-requires : goal.fault-requires
 fault-requires c =
-    let none = none-left (length c.loop-place.free.keys) c.in_default.ensures.variant.1 in
-    rw c.deref-in_default.ensures.value (stuck-placing c.args.self.now c.loop-place._place c.loop-place.order.items c.loop-place.waits.items c.loop-place.free.keys c.loop-place.invariant (omega arith) none)
+    let none = ap length (rw c.deref.ensures.value at c.in_default.ensures.none) in
+    rw c.deref-in_default.ensures.value (stuck-placing c.args.self.now c.loop-place._place c.loop-place.order.items c.loop-place.waits.items _ c.loop-place.invariant.placing (omega arith) (omega arith))
 
 pub count_down-requires-clause-enough : goal.count_down-requires-clause-enough
 count_down-requires-clause-enough c = λ n inside.
@@ -19,8 +28,11 @@ count_down-requires-clause-enough c = λ n inside.
     let place = c.loop-place._place in
     let order = c.loop-place.order.items in
     let waits = c.loop-place.waits.items in
-    let now = subst (λ (w : List ℕ). IsPlacing lists place order waits w) c.in-Some.ensures.removal c.loop-place.invariant in
-    rw (c.deref_mut.ensures.value, c.behind-behind.ensures.numbers) (next-enough lists place order waits c.in-Some.number c.pop_first.new.self.keys now n (omega arith))
+    let number = c.in-Some.number in
+    let keys = all_free c.take_least.new.passed.keys waits (max c.loop-place.next (number + 1)) in
+    let least = rw c.deref.ensures.value at c.in-Some.ensures.least in
+    let now = subst (λ (w : List ℕ). IsPlacing lists place order waits w) least.first c.loop-place.invariant.placing in
+    rw (c.deref_mut.ensures.value, c.behind-behind.ensures.numbers) (next-enough lists place order waits number keys now n (omega arith))
 
 pub loop-place-preserved : goal.loop-place-preserved
 loop-place-preserved c =
@@ -28,16 +40,30 @@ loop-place-preserved c =
     let place = c.loop-place._place in
     let order = c.loop-place.order.items in
     let waits = c.loop-place.waits.items in
-    let keys = c.pop_first.new.self.keys in
+    let number = c.in-Some.number in
+    let passed = c.take_least.new.passed.keys in
+    let more = c.free_more.new.passed.keys in
+    let next = max c.loop-place.next (number + 1) in
+    let keys = all_free passed waits next in
     let counts = c.count_down.new.counts in
-    let now = subst (λ (w : List ℕ). IsPlacing lists place order waits w) c.in-Some.ensures.removal c.loop-place.invariant in
+    let least = rw c.deref.ensures.value at c.in-Some.ensures.least in
+    let now = subst (λ (w : List ℕ). IsPlacing lists place order waits w) least.first c.loop-place.invariant.placing in
     let same : length counts ≡ length waits = omega arith in
     let whole = written c.loop-place.waits.len counts waits (omega arith) same in
+    let greater : c.max-next.result ≡ next = search rules in
     let fewer = rw (c.deref_mut.ensures.value, c.behind-behind.ensures.numbers) at c.count_down.ensures in
-    let more = rw (c.behind-behind.ensures.numbers, c.deref-in-loop-place.ensures.value, whole) at c.in_ok-free_more.ensures in
+    let freed = rw (c.behind-behind.ensures.numbers, c.deref-in-loop-place.ensures.value, whole, greater) at c.in_ok-free_more.ensures in
     let known = rw c.behind-behind.ensures.numbers at c.behind-behind.ensures.known in
-    rw (c.in_ok-push.ensures.items, whole) (next-placing lists place order waits c.in-Some.number keys now c.in-Some.ensures.all_above counts c.free_more.new.free.keys same known fewer more)
+    let all = freed-more waits counts passed more (behind lists number) next freed same (λ n h. let k = known n h in let high = k.1 in omega arith) fewer in
+    rw (c.in_ok-push.ensures.items, whole, greater) (record {
+      placing = next-placing lists place order waits number keys now least.less counts (all_free more counts next) same known fewer all;
+      below = freed-below waits counts passed more (behind lists number) next freed (λ n h. let low = c.in-Some.ensures.passed n h in omega arith);
+      within =
+          (let number_within = rw c.deref.ensures.value at c.in-Some.ensures.within in
+          let next_within = c.loop-place.invariant.within in
+          omega (arith, same, number_within, next_within));
+    })
 
 pub returns-clause-order : goal.returns-clause-order
 returns-clause-order c =
-    end-placing c.args.self.now c.loop-place._place c.loop-place.order.items c.loop-place.waits.items c.loop-place.free.keys c.loop-place.invariant (omega arith)
+    end-placing c.args.self.now c.loop-place._place c.loop-place.order.items c.loop-place.waits.items _ c.loop-place.invariant.placing (omega arith)

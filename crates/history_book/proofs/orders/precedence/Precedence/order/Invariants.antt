@@ -1,5 +1,11 @@
+use Rattle.std.proofs.Common.{length, ◌≤◌}
+use Rattle.history_book.specs.Placing.{all_free, AreBelow}
 use Rattle.history_book.proofs.PlacingLaws.{IsPlacing}
 use Rattle.history_book.proofs.orders.precedence.Precedence.order.Given as goal
 
 abbrev pub invariant-loop-place : goal.invariant-loop-place
-invariant-loop-place l = IsPlacing l.self l._place l.order.items l.waits.items l.free.keys
+invariant-loop-place l = record {
+  placing : IsPlacing l.self l._place l.order.items l.waits.items (all_free l.passed.keys l.waits.items l.next);
+  below : AreBelow l.next l.passed.keys;
+  within : l.next ≤ length l.waits.items;
+}
