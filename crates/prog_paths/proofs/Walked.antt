@@ -12,7 +12,7 @@ use Rattle.prog_paths.specs.declared.accesses.tally.Tally.{Tally}
 use Rattle.prog_paths.specs.Places.{placed_from, all_from}
 use Rattle.prog_paths.specs.Questions.{asked_by, asked_among}
 use Rattle.prog_paths.specs.Limits.{most_questions}
-use Rattle.prog_paths.specs.Tally.{IsTally, of_table, is_behind, is_before, Rises}
+use Rattle.prog_paths.specs.Tally.{IsTally, of_table, is_behind, is_before, NextIsGreater}
 use Rattle.prog_paths.proofs.Questions.{placed}
 use Rattle.prog_paths.proofs.Counted.{among-cons}
 
@@ -188,7 +188,7 @@ next_lower last found table other behind before' h = go (is_behind last other) r
 pub next_own : (last : Option ℕ) (table : ℕ) → is_behind last table ≡ true → is_before (Some table) table ≡ not (is_behind last table)
 next_own last table behind = le-ltb table table (omega arith) ∙ ap not (sym behind)
 
-before_rises : (last next : Option ℕ) (table : ℕ) → Rises last next → is_behind last table ≡ false → is_before next table ≡ true
+before_rises : (last next : Option ℕ) (table : ℕ) → NextIsGreater last next → is_behind last table ≡ false → is_before next table ≡ true
 before_rises None next table r e = absurd (true≢false e)
 before_rises (Some last) None table r e = refl
 before_rises (Some last) (Some next) table r e =
@@ -196,14 +196,14 @@ before_rises (Some last) (Some next) table r e =
     lt-ltb table next (omega (arith, a, r))
 
 -- one that isn't found between stands with the others
-pub next_kept : (last next : Option ℕ) (table : ℕ) → Rises last next → (is_behind last table ≡ true → is_before next table ≡ false) → is_before next table ≡ not (is_behind last table)
+pub next_kept : (last next : Option ℕ) (table : ℕ) → NextIsGreater last next → (is_behind last table ≡ true → is_before next table ≡ false) → is_before next table ≡ not (is_behind last table)
 next_kept last next table r h = go (is_behind last table) refl
   where
     go : (b : Bool) → is_behind last table ≡ b → is_before next table ≡ not (is_behind last table)
     go true e = h e ∙ ap not (sym e)
     go false e = before_rises last next table r e ∙ ap not (sym e)
 
-pub rises_found : (last : Option ℕ) (table : ℕ) → is_behind last table ≡ true → Rises last (Some table)
+pub rises_found : (last : Option ℕ) (table : ℕ) → is_behind last table ≡ true → NextIsGreater last (Some table)
 rises_found None table e = tt
 rises_found (Some last) table e = ltb-true last table e
 
@@ -215,9 +215,9 @@ all_placed P node n (x ∷ xs) h =
 
 -- the least table behind the last one among the first so many of some accesses, or the one that was found before them
 pub record IsNextOf (last found : Option ℕ) (xs : List Access) (k : ℕ) (next : Option ℕ) : Type 0 where
-  pub rises : Rises last found → Rises last next
+  pub rises : NextIsGreater last found → NextIsGreater last next
   pub keeps : (table : ℕ) → is_before found table ≡ not (is_behind last table) → is_before next table ≡ not (is_behind last table)
-  pub all : Rises last found → All (λ a. is_before next a.table ≡ not (is_behind last a.table)) (take k xs)
+  pub all : NextIsGreater last found → All (λ a. is_before next a.table ≡ not (is_behind last a.table)) (take k xs)
 
 pub next_found : (last found next : Option ℕ) (xs : List Access) (k : ℕ) (d : Access) → k < length xs → is_behind last (get_or xs k d).table ≡ true → is_before next (get_or xs k d).table ≡ true → IsNextOf last found xs k next → IsNextOf last found xs (k + 1) (Some (get_or xs k d).table)
 next_found last found next xs k d lt behind before' h = record {
@@ -250,6 +250,6 @@ count_more this next places tally count new all is h e =
     let asked = is.questions in
     omega (arith, parts, asked, h, e)
 
-pub less_left : (table : ℕ) (next : Option ℕ) → table < 2 ^ 64 → Rises (Some table) next → left next < left (Some table)
+pub less_left : (table : ℕ) (next : Option ℕ) → table < 2 ^ 64 → NextIsGreater (Some table) next → left next < left (Some table)
 less_left table None lt r = omega (arith, lt)
 less_left table (Some next) lt r = omega (arith, lt, r)

@@ -63,6 +63,6 @@ is_before None table = true
 is_before (Some next) table = nat_lt table next
 
 -- the next table is greater than the last one
-abbrev pub Rises : Option ℕ → Option ℕ → Type 0
-Rises (Some last) (Some next) = last < next
-Rises _ _ = ⊤
+abbrev pub NextIsGreater : Option ℕ → Option ℕ → Type 0
+NextIsGreater (Some last) (Some next) = last < next
+NextIsGreater _ _ = ⊤

@@ -1,5 +1,6 @@
 -- Where a run stands, and what a step without the store does.
-use Rattle.std.specs.Prelude.{◌≡◌, ◌<◌, ℤ, Bool, true, false, Option, Some, None, is_some, option_map, List, map, take, length}
+use Rattle.std.specs.Prelude.{◌≡◌, ◌<◌, ℤ, Bool, true, false, Option, Some, None, is_some, option_map, List, map, take, length, Result, IfOk, OnErr}
+use Rattle.std.specs.declared.alloc.AllocError.{AllocError}
 use Rattle.prog_tree.specs.declared.deed.End.{End}
 use Rattle.prog_tree.specs.declared.progress.Progress.{Progress}
 use Rattle.prog_tree.specs.declared.table.TableDecl.{TableDecl}
@@ -75,6 +76,13 @@ IsLocalStep Moved c p d q = SameTodo c p d q × (weight_left d < weight_left c) 
 -- the next statement is one of the store
 IsLocalStep AtStore c p d q = (d ≡ c) × (q ≡ p) × (is_store c.here.rest ≡ true)
 IsLocalStep (Over end) c p d q = IsOver end c p q × KeepsStore p q
+
+-- one such step was done; where memory ran out, all is as it was
+pub record StepsOrStays (result : Result Standing AllocError) (c : CursorTree) (p : Progress) (d : CursorTree)
+    (q : Progress) : Type 0 where
+  pub step : IfOk result (λ standing. IsLocalStep standing c p d q)
+  pub err : OnErr result (d ≡ c)
+  pub err_progress : OnErr result (q ≡ p)
 
 -- all such steps were done: the next statement is one of the store, or the run is over
 abbrev pub IsSettled : Option End → CursorTree → Progress → CursorTree → Progress → Type 0

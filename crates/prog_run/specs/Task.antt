@@ -78,6 +78,11 @@ task_tree (task.Keep cell) = Keep cell
 abbrev pub task_at : List TableDecl → Name → s.KeyTree → Bindings → (Cell → Option TaskTree) → Option TaskTree
 task_at tables table key env make = option_and_then make (cell_of (number_of tables table) key env)
 
+-- the task at the cell of a key, with the value of an expression, likewise
+abbrev pub task_with : List TableDecl → Name → s.KeyTree → ExprTree → Bindings → (Cell → ℤ → TaskTree) → Option TaskTree
+task_with tables table key value env make =
+    task_at tables table key env (λ cell. option_map (λ v. make cell v) (value_of value env))
+
 -- the task at the rows of a range, likewise
 abbrev pub task_in : List TableDecl → Name → s.RangeTree → Bindings → (Region → Option TaskTree) → Option TaskTree
 task_in tables table range env make = option_and_then make (region_of (number_of tables table) range env)
@@ -94,10 +99,9 @@ task_of tables (s.Count name table range) env =
 task_of tables (s.Sum name table range) env =
     task_in tables table range env (λ region. Some (Ask (OfRegion region (Sums name))))
 task_of tables (s.Lacks table key) env = task_at tables table key env (λ cell. Some (Ask (OfCell cell Lacks)))
-task_of tables (s.Put table key value) env =
-    task_at tables table key env (λ cell. option_map (λ v. Put cell v) (value_of value env))
+task_of tables (s.Put table key value) env = task_with tables table key value env (λ cell v. Put cell v)
 task_of tables (s.Insert table key value) env =
-    task_at tables table key env (λ cell. option_map (λ v. Ask (OfCell cell (Insert v))) (value_of value env))
+    task_with tables table key value env (λ cell v. Ask (OfCell cell (Insert v)))
 task_of tables (s.Delete table key) env = task_at tables table key env (λ cell. Some (Remove cell))
 task_of tables (s.Keep table key) env = task_at tables table key env (λ cell. Some (Keep cell))
 task_of tables (s.Reply value) env = None

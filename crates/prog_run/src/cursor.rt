@@ -5,7 +5,7 @@ ghost use Rattle.prog_tree.specs.Syntax.{Then, Branch, Bind, Reply};
 ghost use Rattle.prog_tree.specs.Tree.{expr_tree, test_tree, listing_tree, block_tree, stmts_tree};
 ghost use Rattle.prog_run.specs.Todo.{inside};
 ghost use Rattle.prog_run.specs.Cursor.{open_tree, cursor_tree, is_store, KeepsStore, SameTodo};
-ghost use Rattle.prog_run.specs.Cursor.{IsLocalStep, IsSettled};
+ghost use Rattle.prog_run.specs.Cursor.{IsLocalStep, IsSettled, StepsOrStays};
 ghost use Rattle.prog_run.specs.Looks.{region_look, seen_rows};
 ghost use Rattle.prog_run.specs.Task.{Lists, region_use_tree};
 ghost use Rattle.prog_run.specs.Statement.{IsRegionAnswered};
@@ -91,11 +91,8 @@ impl<'a> Cursor<'a> {
     ) -> Result<Standing, AllocError>
         requires { stmts_tree self.old.here.rest.now
             ≡ Then (Bind name.now (expr_tree value.now)) (stmts_tree rest.now) }
-        ensures step { IfOk result
-            (λ s. IsLocalStep s (cursor_tree self.old) progress.old
-            (cursor_tree self.new) progress.new) }
-        ensures err { OnErr result (cursor_tree self.new ≡ cursor_tree self.old) }
-        ensures err_progress { OnErr result (progress.new ≡ progress.old) }
+        ensures { StepsOrStays result (cursor_tree self.old) progress.old (cursor_tree self.new)
+            progress.new }
     {
         let Some(value) = value.value(&progress.env) else {
             return Ok(Standing::Over(OVERFLOW));
@@ -114,11 +111,8 @@ impl<'a> Cursor<'a> {
     ) -> Result<Standing, AllocError>
         requires { stmts_tree self.old.here.rest.now
             ≡ Then (Reply (expr_tree value.now)) (stmts_tree rest.now) }
-        ensures step { IfOk result
-            (λ s. IsLocalStep s (cursor_tree self.old) progress.old
-            (cursor_tree self.new) progress.new) }
-        ensures err { OnErr result (cursor_tree self.new ≡ cursor_tree self.old) }
-        ensures err_progress { OnErr result (progress.new ≡ progress.old) }
+        ensures { StepsOrStays result (cursor_tree self.old) progress.old (cursor_tree self.new)
+            progress.new }
     {
         let Some(value) = value.value(&progress.env) else {
             return Ok(Standing::Over(OVERFLOW));

@@ -3,12 +3,11 @@ ghost use Rattle.std.specs.Prelude.{◌≡◌, true, Some, option_map};
 ghost use Rattle.prog_tree.specs.Numbering.{number_of};
 ghost use Rattle.prog_tree.specs.Evaluation.{cell_of};
 ghost use Rattle.prog_tree.specs.Tree.{expr_tree, key_tree, range_tree, stmt_tree};
-ghost use Rattle.prog_tree.specs.Value.{value_of};
 ghost use Rattle.prog_run.specs.Cursor.{is_store_stmt};
 ghost use Rattle.prog_run.specs.Looks.{question_of};
 ghost use Rattle.prog_run.specs.Task.{CellUseTree, AskedTree, TaskTree, asked_tree, task_tree};
-ghost use Rattle.prog_run.specs.Task.{cell_use_tree};
-ghost use Rattle.prog_run.specs.Task.{region_use_tree, task_at, task_in, task_of_stmt};
+ghost use Rattle.prog_run.specs.Task.{cell_use_tree, region_use_tree};
+ghost use Rattle.prog_run.specs.Task.{task_at, task_in, task_of_stmt, task_with};
 ghost use Rattle.prog_run.specs.Step.{next_asking};
 ghost use Rattle.prog_run.specs.View.{asked_region};
 
@@ -131,9 +130,8 @@ fn insert_at<'a>(
     env: &Env,
 ) -> Option<Task<'a>>
     ensures { option_map task_tree result
-        ≡ task_at set.now.tables.items table.now (key_tree key.now) env.now
-        (λ cell. option_map (λ v. TaskTree.Ask (AskedTree.OfCell cell (CellUseTree.Insert v)))
-        (value_of (expr_tree value.now) env.now)) }
+        ≡ task_with set.now.tables.items table.now (key_tree key.now) (expr_tree value.now) env.now
+        (λ cell v. TaskTree.Ask (AskedTree.OfCell cell (CellUseTree.Insert v))) }
 {
     let cell = cell_at(set, table, key, env)?;
     let usage = CellUse::Insert {
@@ -151,9 +149,8 @@ fn put_at<'a>(
     env: &Env,
 ) -> Option<Task<'a>>
     ensures { option_map task_tree result
-        ≡ task_at set.now.tables.items table.now (key_tree key.now) env.now
-        (λ cell. option_map (λ v. TaskTree.Put cell v)
-        (value_of (expr_tree value.now) env.now)) }
+        ≡ task_with set.now.tables.items table.now (key_tree key.now) (expr_tree value.now) env.now
+        (λ cell v. TaskTree.Put cell v) }
 {
     let cell = cell_at(set, table, key, env)?;
     let value = value.value(env)?;

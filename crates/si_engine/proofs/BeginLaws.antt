@@ -1,5 +1,5 @@
 -- What a begin leaves is what the machine leaves.
-use Rattle.std.proofs.Common.{◌≡◌, ℕ, ◌+◌, ◌-◌, ◌≤◌, ◌==◌, nat_lt, ◌||◌, Bool, true, false, not, List, [], ◌∷◌, ◌++◌, length, refl, ap, sym, ◌∙◌, subst, cond, ◌⊎◌, inl, inr, arith, ℤ, Box, Result, IfOk, OnErr}
+use Rattle.std.proofs.Common.{◌≡◌, ℕ, ◌+◌, ◌≤◌, ◌==◌, nat_lt, ◌||◌, Bool, true, false, not, List, [], ◌∷◌, ◌++◌, length, refl, ap, sym, ◌∙◌, subst, cond, ◌⊎◌, inl, inr, arith, ℤ, Box, Result, IfOk, OnErr}
 use Rattle.std.specs.Prelude.{nat_le, slice_get, Option, Some, None, option_map}
 use Rattle.std.proofs.lemmas.Bool.Decides.{nat_tests}
 use Rattle.std.proofs.lemmas.List.{map-append, length-map, length-append}
@@ -28,7 +28,7 @@ use Rattle.si_engine.specs.declared.event.Event.{Event}
 use Rattle.si_engine.specs.declared.event.Event.TheVariants as event
 use Rattle.si_engine.specs.declared.event.Reply.{Reply}
 use Rattle.si_engine.specs.declared.event.Reply.TheVariants as reply
-use Rattle.si_engine.proofs.EngineLaws.{view_of}
+use Rattle.si_engine.proofs.EngineLaws.{held_alike, view_of}
 use Rattle.si_engine.proofs.PlaceLaws.{numbered-push, length-numbered}
 
 -- ---- what is wrong with a begin
@@ -171,15 +171,6 @@ module _ (v : BookView) (runs : List (Option ActiveRun)) (kept : IsEngine v runs
           ready = λ ready. absurd (cc);
         }
 
-        held_more : (n : ℕ) (b : ActiveRun) → IsHeld v n b → IsHeld (begun_at v start program args) n b
-        held_more n b h = record {
-          place = h.place;
-          start = h.start;
-          own = record { same = record { tables = h.own.same.tables; program = h.own.same.program; args = h.own.same.args }; found = h.own.found };
-          is_true = h.is_true;
-          ready = h.ready;
-        }
-
         pub engine-begun : (w : BookView) → w ≡ begun_at v start program args → IsEngine w (runs ++ Some fresh ∷ [])
         engine-begun w after = subst (λ x. IsEngine x (runs ++ Some fresh ∷ [])) (sym after) (record {
           counted = omega (arith, length-append runs (Some fresh ∷ []), kept.counted);
@@ -190,7 +181,7 @@ module _ (v : BookView) (runs : List (Option ActiveRun)) (kept : IsEngine v runs
               ∙ ap (λ i. numbered 0 (begun_of runs) ++ (0 + length (begun_of runs), i) ∷ []) (sym fresh_instance)
               ∙ sym (numbered-push 0 (begun_of runs) (active_in fresh))
               ∙ ap (numbered 0) (sym (map-append (option_map active_in) runs (Some fresh ∷ [])));
-          held = λ n b at. held_more n b (go n b (get-push runs (Some fresh) (Some b) n at));
+          held = λ n b at. held_alike v _ _ _ _ n b (go n b (get-push runs (Some fresh) (Some b) n at));
         })
           where
             go : (n : ℕ) (b : ActiveRun) → (slice_get runs n ≡ Some (Some b)) ⊎ ((n ≡ length runs) × (Some fresh ≡ Some b)) → IsHeld v n b

@@ -57,30 +57,29 @@ pub record Leaves (v w : BookView) (number : ℕ) : Type 0 where
   pub active : w.active ≡ without number v.active
   pub held : (n : ℕ) (b : ActiveRun) → IsHeld v n b → IsHeld w n b
 
+-- what is held of an instance hangs on the set, the opening rows and the commits of its book alone
+pub held_alike : (v : BookView) (endings : List Ending) (active : List (ℕ × Instance)) (begun floor n : ℕ) (b : ActiveRun) → IsHeld v n b
+    → IsHeld (record v { endings = endings; active = active; begun = begun; floor = floor }) n b
+held_alike v endings active begun floor n b h = record {
+  place = h.place;
+  start = h.start;
+  own = record { same = record { tables = h.own.same.tables; program = h.own.same.program; args = h.own.same.args }; found = h.own.found };
+  is_true = h.is_true;
+  ready = h.ready;
+}
+
 pub leaves_ended : (v : BookView) (number : ℕ) (e : Ending) → Leaves v (ended_in v number e) number
 leaves_ended v number e = record {
   begun = refl;
   active = refl;
-  held = λ n b h. record {
-    place = h.place;
-    start = h.start;
-    own = record { same = record { tables = h.own.same.tables; program = h.own.same.program; args = h.own.same.args }; found = h.own.found };
-    is_true = h.is_true;
-    ready = h.ready;
-  };
+  held = held_alike v _ _ _ _;
 }
 
 leaves_withdrawn : (v : BookView) (number : ℕ) → Leaves v (withdrawn_in v number) number
 leaves_withdrawn v number = record {
   begun = refl;
   active = refl;
-  held = λ n b h. record {
-    place = h.place;
-    start = h.start;
-    own = record { same = record { tables = h.own.same.tables; program = h.own.same.program; args = h.own.same.args }; found = h.own.found };
-    is_true = h.is_true;
-    ready = h.ready;
-  };
+  held = held_alike v _ _ _ _;
 }
 
 -- the states that instances see are those of the longer history
@@ -310,13 +309,4 @@ module _ (v : BookView) (runs : List (Option ActiveRun)) (kept : IsEngine v runs
       ap (λ x. machine_of x runs) is ∙ ap (λ n. record (machine_of v runs) { floor = n }) floor
 
   pub engine-vacuum : (n : ℕ) → IsEngine (record v { floor = n }) runs
-  engine-vacuum n = record { counted = kept.counted; active = kept.active; held = λ i a at. held_there i a (kept.held i a at) }
-    where
-      held_there : (i : ℕ) (a : ActiveRun) → IsHeld v i a → IsHeld (record v { floor = n }) i a
-      held_there i a h = record {
-        place = h.place;
-        start = h.start;
-        own = record { same = record { tables = h.own.same.tables; program = h.own.same.program; args = h.own.same.args }; found = h.own.found };
-        is_true = h.is_true;
-        ready = h.ready;
-      }
+  engine-vacuum n = record { counted = kept.counted; active = kept.active; held = λ i a at. held_alike v _ _ _ _ i a (kept.held i a at) }

@@ -11,11 +11,10 @@ use Rattle.prog_tree.specs.declared.deed.End.TheVariants.{Ready, Aborted}
 use Rattle.prog_tree.specs.declared.table.TableDecl.{TableDecl}
 use Rattle.prog_tree.specs.Evaluation.{Evaluation, eval}
 use Rattle.prog_tree.specs.Tree.{draft_tree, program_tree}
-use Rattle.prog_run.specs.Looks.{AreFound}
-use Rattle.prog_run.specs.View.{RunView, SameBegin, IsTrueRun, IsTrueAt, meaning, result_of}
+use Rattle.prog_run.specs.View.{RunView, SameBegin, IsTrueAt, meaning, result_of}
 use Rattle.history_book.specs.History.{Instance}
 use Rattle.history_book.specs.Refusals.{IsOfInstance}
-use Rattle.history_book.specs.Runs.{SameProgram, IsOwnRun}
+use Rattle.history_book.specs.Runs.{SameProgram, IsOwnRun, StaysOwn}
 use Rattle.history_book.specs.Ticket.{TicketView}
 use Rattle.history_book.specs.View.{BookView, active_at, state_in, done_in}
 use Rattle.history_book.proofs.HistoryLaws.{eval_of-found}
@@ -48,7 +47,10 @@ no_next_deed : (all before : List Deed) → all ≡ before → slice_get all (le
 no_next_deed all before same = ap (λ (ds : List Deed). slice_get ds (length before)) same ∙ slice_get_past before (length before) (omega arith)
 
 -- an active instance a whose run has come to `run`
-module _ (v : BookView) (a : ActiveRun) (run : RunView) (held : IsHeld v a.ticket.number a) (same : SameBegin a.run.value run) (found : AreFound (state_in v a.ticket.start) run.looks) (is_true : IsTrueRun run) where
+module _ (v : BookView) (a : ActiveRun) (before run : RunView) (is : before ≡ a.run.value) (held : IsHeld v a.ticket.number a) (own : StaysOwn (state_in v a.ticket.start) before run) where
+  same : SameBegin a.run.value run
+  same = subst (λ (r : RunView). SameBegin r run) is own.same
+
   abbrev now : ActiveRun
   now = record a { run = with_value a.run run }
 
@@ -75,7 +77,7 @@ module _ (v : BookView) (a : ActiveRun) (run : RunView) (held : IsHeld v a.ticke
   is_meaning = meaning_is v (instance_in a) run program_stays
 
   ended : (e : End) → run.end ≡ Some e → result_of e run ≡ does
-  ended e over = (is_true (state_in v a.ticket.start) found).ending e over ∙ is_meaning
+  ended e over = (own.true_run (state_in v a.ticket.start) own.found).ending e over ∙ is_meaning
 
   had_ended : (e : End) → a.run.value.end ≡ Some e → result_of e a.run.value ≡ does
   had_ended e over = was.ending e over ∙ was_meaning
@@ -84,8 +86,8 @@ module _ (v : BookView) (a : ActiveRun) (run : RunView) (held : IsHeld v a.ticke
   held_stays ready = record {
     place = held.place;
     start = held.start;
-    own = subst (λ i. IsOwnRun v i run) (sym instance_stays) (record { same = program_stays; found = found });
-    is_true = is_true;
+    own = subst (λ i. IsOwnRun v i run) (sym instance_stays) (record { same = program_stays; found = own.found });
+    is_true = own.true_run;
     ready = ready;
   }
 
@@ -93,7 +95,7 @@ module _ (v : BookView) (a : ActiveRun) (run : RunView) (held : IsHeld v a.ticke
   module _ (d : Deed) (more : run.deeds ≡ a.run.value.deeds ++ d ∷ []) where
     next_is : slice_get does.deeds (length a.run.value.deeds) ≡ Some d
     next_is =
-        let first = (is_true (state_in v a.ticket.start) found).deeds in
+        let first = (own.true_run (state_in v a.ticket.start) own.found).deeds in
         let first_of : take (length run.deeds) does.deeds ≡ run.deeds = subst (λ (e : Evaluation). take (length run.deeds) e.deeds ≡ run.deeds) is_meaning first in
         next_deed does.deeds a.run.value.deeds d (subst (λ ds. take (length ds) does.deeds ≡ ds) more first_of)
 

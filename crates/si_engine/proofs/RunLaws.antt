@@ -13,12 +13,12 @@ use Rattle.si_engine.specs.declared.output.finding.Serializability.{Serializabil
 use Rattle.si_engine.specs.declared.input.script.Script.{Script}
 use Rattle.prog_tree.specs.Tree.{draft_tree}
 use Rattle.prog_tree.specs.declared.program.Draft.{Draft}
-use Rattle.history_book.specs.History.{Instance, state_after}
+use Rattle.history_book.specs.History.{state_after}
 use Rattle.history_book.specs.View.{BookView, state_in, history_of, instance_of}
-use Rattle.si_engine.specs.Machine.{Machine, new_machine, machine_step, machine_after, replies_of}
-use Rattle.si_engine.proofs.OutputLaws.{adds_first_of, adds_both, adds_behind, adds_line}
+use Rattle.si_engine.specs.Machine.{Machine, machine_step, machine_after, replies_of}
+use Rattle.si_engine.proofs.OutputLaws.{adds_line}
 use Rattle.si_engine.specs.Headline.{commit_in, commits_said}
-use Rattle.si_engine.specs.Runs.{event_lines, row_lines, end_lines, run_lines, history_of_run, AddsLines, AddsFirst, AddsEnd, AddsRun, IsRunOf, done, refused, stopped, IsUnreadRun, unread, IsRunReply}
+use Rattle.si_engine.specs.Runs.{event_lines, row_lines, end_lines, run_lines, AddsLines, AddsFirst, AddsRun, IsRunOf, done, refused, stopped, IsUnreadRun, unread, IsRunReply}
 use Rattle.si_engine.specs.Printed.{reply_line, printed_row}
 use Rattle.si_engine.specs.Sources.{ForInput}
 use Rattle.si_engine.specs.Script.{IsScript, IsScriptFault}
@@ -49,40 +49,6 @@ module _ (set : DraftTree) (opening : TableState) (event : Event) (events : List
   first_commit =
       ap (λ replies. commits_said (zip (event ∷ events) replies)) first_reply
       ∙ flat_map-cons commit_in (event, r) (zip events (replies_of set opening events next))
-
--- the lines of a script: those of its events, and then those of its rows
-module _ (set : DraftTree) (script : Script) (opening : TableState) (events : List Event) (m : Machine) (is_opening : opening ≡ script.rows) (is_events : events ≡ script.events) (is_started : m ≡ new_machine) where
-  lines_are : event_lines set opening events m ≡ event_lines set script.rows script.events new_machine
-  lines_are =
-      ap (λ o. event_lines set o events m) is_opening ∙ (ap (λ es. event_lines set script.rows es m) is_events ∙ ap (λ n. event_lines set script.rows script.events n) is_started)
-
-  pub after_is : machine_after set opening events m ≡ machine_after set script.rows script.events new_machine
-  after_is =
-      ap (λ o. machine_after set o events m) is_opening ∙ (ap (λ es. machine_after set script.rows es m) is_events ∙ ap (λ n. machine_after set script.rows script.events n) is_started)
-
-  abbrev lines_of_end : List (List ℕ)
-  lines_of_end = end_lines set script.rows (history_of_run set script)
-
-  pub first_events : (s t : List ℕ) → AddsFirst (event_lines set opening events m) s t → AddsFirst (run_lines set script) s t
-  first_events s t h = adds_first_of (event_lines set script.rows script.events new_machine) lines_of_end s t (subst (λ l. AddsFirst l s t) lines_are h)
-
-  module _ (s t u : List ℕ) (d : DraftTree) (o : TableState) (history : List Instance) (same_set : d ≡ set) (same : o ≡ script.rows) (is_history : history ≡ history_of_run set script) (h : AddsLines (event_lines set opening events m) s t) where
-    -- all lines of the events, and all that a history ends with
-    pub all_lines : (finding : Serializability) → AddsEnd d o history finding t u → AddsRun set script finding s u
-    all_lines finding end = go (subst (λ i. AddsEnd set script.rows i finding t u) is_history (subst (λ p. AddsEnd set p history finding t u) same (subst (λ e. AddsEnd e o history finding t u) same_set end))) where
-      go : AddsEnd set script.rows (history_of_run set script) finding t u → AddsRun set script finding s u
-      go (last, found, added) = (
-        last,
-        found,
-        subst (λ l. AddsLines l s u) (sym (append_assoc (event_lines set script.rows script.events new_machine) lines_of_end (last ∷ [])))
-            (adds_both (event_lines set script.rows script.events new_machine) (lines_of_end ++ last ∷ []) s t u (subst (λ l. AddsLines l s t) lines_are h) added),
-      )
-
-    -- all lines of the events, and some first ones of the rows
-    pub first_rows : AddsFirst (end_lines d o history) t u → AddsFirst (run_lines set script) s u
-    first_rows first =
-        adds_behind (event_lines set script.rows script.events new_machine) lines_of_end s t u (subst (λ l. AddsLines l s t) lines_are h)
-        (subst (λ i. AddsFirst (end_lines set script.rows i) t u) is_history (subst (λ p. AddsFirst (end_lines set p history) t u) same (subst (λ e. AddsFirst (end_lines e o history) t u) same_set first)))
 
 -- the line of the next row is added behind those of the first ones
 pub next_row :

@@ -73,6 +73,11 @@ pub record Stands {S : Type 0} (say : (line : ℕ) → List ℕ → Result S Lin
   pub some : 0 < length rest
   pub first : bytes ≡ strip_carriage_return (before_first (λ c. c == 10) rest)
 
+pub stands : {S : Type 0} {say : (line : ℕ) → List ℕ → Result S LineFault} {wrong : (line : ℕ) → List S → S → Option LineFault}
+    {all : Result (List S) LineFault} {line : ℕ} {before : List S} {rest bytes : List ℕ} → sayings_from say wrong line before (lines_of rest) ≡ all
+    → 0 < length rest → bytes ≡ strip_carriage_return (before_first (λ c. c == 10) rest) → Stands say wrong all line before rest bytes
+stands same some first = record { same = same; some = some; first = first }
+
 module _ {S : Type 0} (say : (line : ℕ) → List ℕ → Result S LineFault) (wrong : (line : ℕ) → List S → S → Option LineFault)
     (all : Result (List S) LineFault) (line : ℕ) (before : List S) (rest bytes : List ℕ) (s : Stands say wrong all line before rest bytes) where
   -- so the whole says what this line and those behind it say

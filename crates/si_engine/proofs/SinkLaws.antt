@@ -69,8 +69,12 @@ goes_on P Q waiting later false old new ended end works lost (text, is, (sent, p
 goes_on P Q waiting later true old new ended end works lost (text, meant, is, front) =
     let other = lost text meant is in (text, other.0, other.1, front)
 
--- what is so of each text that may have been written is so of what was
-pub writes_as : {E : Type 0} (lost : E) (P : List ℕ → E → Type 0) (Q : List ℕ → E → Type 0) (failed : Bool) (old new : Option (List ℕ)) (ended : E)
+-- what is so of each text that may have been written is so of what was, also where its end is told in other words
+pub writes_or_as : {D E : Type 0} (g : D → E) (lost : D) (P : List ℕ → D → Type 0) (Q : List ℕ → E → Type 0) (failed : Bool) (old new : Option (List ℕ)) (ended : D)
+    → ((text : List ℕ) (end : D) → P text end → Q text (g end)) → WritesOr lost P failed old new ended → WritesOr (g lost) Q failed old new (g ended)
+writes_or_as g lost P Q false old new ended turn (written, is, appends) = (written, turn written ended is, appends)
+writes_or_as g lost P Q true old new ended turn (lost_is, written, meant, is, front) = (ap g lost_is, written, g meant, turn written meant is, front)
+
+pub writes_as : {E : Type 0} (lost : E) (P Q : List ℕ → E → Type 0) (failed : Bool) (old new : Option (List ℕ)) (ended : E)
     → ((text : List ℕ) (end : E) → P text end → Q text end) → WritesOr lost P failed old new ended → WritesOr lost Q failed old new ended
-writes_as lost P Q false old new ended turn (written, is, appends) = (written, turn written ended is, appends)
-writes_as lost P Q true old new ended turn (lost_is, written, meant, is, front) = (lost_is, written, meant, turn written meant is, front)
+writes_as {E = E} lost P Q failed old new ended turn writes = writes_or_as (λ (e : E). e) lost P Q failed old new ended turn writes

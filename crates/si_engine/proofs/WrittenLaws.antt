@@ -1,7 +1,6 @@
 -- What was written where the last line is an order.
-use Rattle.std.proofs.Common.{◌≡◌, ◌∙◌, List, ℕ, [], ◌∷◌, ◌++◌, ap, refl}
+use Rattle.std.proofs.Common.{◌∙◌, [], ◌∷◌, ◌++◌, ap, refl}
 use Rattle.std.specs.List.{concat, zip}
-use Rattle.si_engine.specs.declared.output.finding.Serializability.TheVariants.{Order}
 use Rattle.si_engine.specs.declared.robust.run.Outcome.{Outcome}
 use Rattle.si_engine.specs.Headline.{commits_said, rows_of_machine}
 use Rattle.si_engine.specs.Machine.{new_machine, machine_after, replies_of}

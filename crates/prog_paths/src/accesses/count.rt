@@ -5,7 +5,7 @@ ghost use Rattle.prog_paths.specs.declared.accesses.places.Placed.{Placed};
 ghost use Rattle.prog_paths.specs.Places.{placed_from, all_from};
 ghost use Rattle.prog_paths.specs.Questions.{asked_among, questions_of};
 ghost use Rattle.prog_paths.specs.Limits.{most_questions};
-ghost use Rattle.prog_paths.specs.Tally.{IsTally, of_table, is_behind, is_before, Rises};
+ghost use Rattle.prog_paths.specs.Tally.{IsTally, of_table, is_behind, is_before, NextIsGreater};
 
 use crate::accesses::tally::{Tally, sum};
 use crate::limits::MAX_QUESTIONS;
@@ -58,10 +58,10 @@ fn is_before(next: Option<usize>, table: usize) -> bool
 
 /// The least table behind the last one that one more node uses, or the one that was found.
 fn next_in(accesses: &[Access], last: Option<usize>, found: Option<usize>) -> Option<usize>
-    ensures rises { Rises last found → Rises last result }
+    ensures rises { NextIsGreater last found → NextIsGreater last result }
     ensures keeps { (table : ℕ) → is_before found table ≡ not (is_behind last table)
         → is_before result table ≡ not (is_behind last table) }
-    ensures all { Rises last found
+    ensures all { NextIsGreater last found
         → All (λ a. is_before result a.table ≡ not (is_behind last a.table)) accesses.now }
 {
     let mut next = found;
@@ -75,7 +75,7 @@ fn next_in(accesses: &[Access], last: Option<usize>, found: Option<usize>) -> Op
 
 /// The least table behind the last one that the paths use.
 fn next_table(paths: &[Path], last: Option<usize>) -> Option<usize>
-    ensures rises { Rises last result }
+    ensures rises { NextIsGreater last result }
     ensures all { All (λ p. is_before result p.access.table ≡ not (is_behind last p.access.table))
         (all_from 0 paths.now) }
 {

@@ -11,7 +11,8 @@ use Rattle.si_engine.specs.declared.input.source.InputFault.TheVariants as input
 use Rattle.si_engine.specs.Writing.{IsUnderWay}
 use Rattle.si_engine.proofs.OutputLaws.{adds_line, adds_none}
 use Rattle.si_engine.proofs.RunLaws.{next_lines, first_after}
-use Rattle.si_engine.proofs.SinkLaws.{cut_off, fewer_wait, has_front, more_waits, under_way}
+use Rattle.si_engine.proofs.RunsUnderWay.{events_cut, events_stop}
+use Rattle.si_engine.proofs.SinkLaws.{cut_off, fewer_wait, has_front, more_waits}
 use Rattle.si_engine.proofs.run.run_events.Goals as goal
 
 pub returns-then-failed-clause-lines : goal.returns-then-failed-clause-lines
@@ -44,32 +45,18 @@ write_when_long-requires g c = c.loop-next.invariant.working
 pub returns-in_err-write_when_long-clause-lines : goal.returns-in_err-write_when_long-clause-lines
 returns-in_err-write_when_long-clause-lines g c =
     let so_far = c.loop-next.invariant in
-    let set = draft_tree c.args.set.now in
-    let opening = c.args.engine.now.opening in
-    let lines = event_lines set opening c.args.events.now c.args.engine.now.machine in
-    let later = event_lines set opening c.loop-next.rest c.loop-next.engine.machine in
-    let sink = c.write_when_long.new.sink in
-    has_front (MakesLines lines (string_bytes c.args.out.now)) (string_bytes c.write_when_long.new.text) so_far.text
-    (g.K.Sink.has_failed sink) (g.K.Sink.taken c.args.sink.now) (g.K.Sink.taken sink) (Err (fault.Input input_fault.Memory)) _ (search rules)
-    (refl, (so_far.done, later, so_far.lines, so_far.added))
+    events_cut _ so_far.done _ _ so_far.text _ _ _ _ so_far.lines so_far.added _ (search rules)
     (cut_off (string_bytes c.loop-next.out) so_far.text _ _ _ so_far.under_way c.in_err-write_when_long.ensures.first)
 
 pub returns-in_err-answer_next-clause-lines : goal.returns-in_err-answer_next-clause-lines
 returns-in_err-answer_next-clause-lines g c =
     let so_far = c.loop-next.invariant in
-    let set = draft_tree c.args.set.now in
-    let opening = c.args.engine.now.opening in
-    let lines = event_lines set opening c.args.events.now c.args.engine.now.machine in
-    let later = event_lines set opening c.loop-next.rest c.loop-next.engine.machine in
-    let waited = string_bytes c.write_when_long.new.text in
-    let way = fewer_wait (string_bytes c.loop-next.out) waited so_far.text _ _ _ so_far.under_way c.in_ok-write_when_long.ensures.waits in
+    let way = fewer_wait (string_bytes c.loop-next.out) (string_bytes c.write_when_long.new.text) so_far.text _ _ _ so_far.under_way c.in_ok-write_when_long.ensures.waits in
     let old = g.K.Sink.taken c.args.sink.now in
     let new = g.K.Sink.taken c.write_when_long.new.sink in
     let same = subst (λ w. IsUnderWay w old new so_far.text) (sym c.in_err-answer_next.ensures.err) way in
     let exit = err_from_is_err_and c.from_residual-in_err-answer_next.result c.from_residual-in_err-answer_next.ensures.1 in
-    rw (exit.1, exit.2)
-    (under_way (MakesLines lines (string_bytes c.args.out.now)) (string_bytes c.answer_next.new.out) so_far.text (g.K.Sink.has_failed c.write_when_long.new.sink) old new (Err (fault.Input input_fault.Memory)) (search rules)
-    (refl, (so_far.done, later, so_far.lines, so_far.added)) same)
+    rw (exit.1, exit.2) (events_stop _ so_far.done _ _ so_far.text _ _ _ _ so_far.lines so_far.added (search rules) same)
 
 pub loop-next-preserved : goal.loop-next-preserved
 loop-next-preserved g c =
