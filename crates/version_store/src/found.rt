@@ -1,6 +1,6 @@
 //! What is found in the chain of a cell, and the rows that it adds to others.
 ghost use Rattle.std.specs.Prelude.{◌≡◌, ◌↔◌, ◌++◌, Some, OnOk, option_copied};
-ghost use Rattle.prog_tree.specs.Table.{TableState, row_held};
+ghost use Rattle.prog_tree.specs.Table.{TableState, is_cell_among, row_held};
 ghost use Rattle.version_store.specs.Reading.{RisesFrom, value_at};
 ghost use Rattle.version_store.specs.Regions.{seen_in, seen_left, with_found};
 
@@ -31,6 +31,13 @@ pub fn seen_in(region: &Region, start: u64, cell: &Cell, chain: &Chain) -> Optio
     chain.value_at(start)
 }
 
+// Whether a cell is one of some others. Most looks leave none out.
+fn is_among(own: &RisingCells, cell: &Cell) -> bool
+    ensures { result ≡ is_cell_among own.now cell.now }
+{
+    !own.is_empty() && own.contains(cell)
+}
+
 /// What is seen in a region of a cell, unless it is one of some `own` cells.
 pub fn seen_left(
     region: &Region,
@@ -42,7 +49,7 @@ pub fn seen_left(
     ensures { RisesFrom 0 chain.now.versions →
         result ≡ seen_left region.now own.now start cell.now chain.now }
 {
-    if own.contains(cell) {
+    if is_among(own, cell) {
         return None;
     }
     seen_in(region, start, cell, chain)
