@@ -1,7 +1,7 @@
 -- Places of a part of an input, with their lines in the part and in the whole input.
-use Rattle.std.specs.Prelude.{ℕ, ◌≡◌, ◌+◌, List, [], ◌∷◌, ◌++◌, codes, length, map}
+use Rattle.std.specs.Prelude.{ℕ, ◌≡◌, ◌+◌, List, [], ◌∷◌, ◌++◌, codes, count_by, length, map}
 use Rattle.std.specs.Fmt.{decimal}
-use Rattle.text_places.specs.Places.{line_number}
+use Rattle.text_places.specs.Places.{is_feed, line_number}
 use Rattle.text_places.specs.Quotes.{pointed_out, visible}
 use Rattle.run_words.specs.declared.in_input.Part.{Part}
 
@@ -18,7 +18,15 @@ abbrev pub where_ahead : (ahead text : List ℕ) → List ℕ
 where_ahead [] text = []
 where_ahead (byte ∷ bytes) text = text
 
+-- a line of a part, by its number in the whole input: behind the line feeds ahead
+abbrev pub whole_line : Part → (line : ℕ) → ℕ
+whole_line part line = count_by is_feed part.ahead.now + line
+
 -- nothing where the part is the whole
+abbrev pub whole_line_text : Part → (line : ℕ) → List ℕ
+whole_line_text part line = where_ahead part.ahead.now (numbered_text (whole_line part line))
+
+-- the same of the line of a place
 abbrev pub input_line_text : Part → (place : ℕ) → List ℕ
 input_line_text part place = where_ahead part.ahead.now (numbered_text (input_line part place))
 

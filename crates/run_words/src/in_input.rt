@@ -1,10 +1,11 @@
 //! Places of a part of an input, with their lines in the part and in the whole input.
-ghost use Rattle.std.specs.Prelude.{◌≡◌, ◌++◌, IfOk, map, string_bytes};
+ghost use Rattle.std.specs.Prelude.{◌≡◌, ◌≤◌, ◌+◌, ◌++◌, IfOk, length, map, string_bytes};
 ghost use Rattle.text_places.specs.Quotes.{pointed_out, visible};
-ghost use Rattle.run_words.specs.InInput.{input_line, input_line_text, numbered_text, PointsInPart};
+ghost use Rattle.run_words.specs.InInput.{input_line_text, whole_line, whole_line_text, numbered_text};
+ghost use Rattle.run_words.specs.InInput.{PointsInPart};
 
 use std::alloc::{AllocError, Global};
-use text_places::{before, feeds, point_out, visible_text};
+use text_places::{feeds, line_number, point_out, visible_text};
 
 /// A part of an input, and the bytes of the input that stand ahead of it.
 #[derive(Clone, Copy)]
@@ -13,14 +14,12 @@ pub struct Part<'a> {
     pub bytes: &'a [u8],
 }
 
-// The line of a place of a part in the whole input.
-#[tactic(auto, using(crate::proofs::WholeInput::line_behind))]
-fn input_line(part: Part<'_>, place: usize) -> usize
-    ensures { result ≡ input_line part.entry place }
+// A line of a part, by its number in the whole input.
+fn whole_line(part: Part<'_>, line: usize) -> usize
+    requires { line ≤ length part.bytes.now + 1 }
+    ensures { result ≡ whole_line part.entry line }
 {
-    let feeds_ahead = feeds(part.ahead);
-    let feeds_within = feeds(before(part.bytes, place));
-    feeds_ahead + feeds_within + 1
+    feeds(part.ahead) + line
 }
 
 fn numbered_text(alloc: Global, line: usize) -> Result<String, AllocError>
@@ -29,14 +28,23 @@ fn numbered_text(alloc: Global, line: usize) -> Result<String, AllocError>
     format!(in alloc; " (line {line} of the input)")
 }
 
-/// The line of a place of a part in the whole input; nothing where the part is the whole.
-pub fn input_line_text(alloc: Global, part: Part<'_>, place: usize) -> Result<String, AllocError>
-    ensures { IfOk result (λ text. string_bytes text ≡ input_line_text part.entry place) }
+/// A line of a part in the whole input; nothing where the part is the whole.
+pub fn whole_line_text(alloc: Global, part: Part<'_>, line: usize) -> Result<String, AllocError>
+    requires { line ≤ length part.bytes.now + 1 }
+    ensures { IfOk result (λ text. string_bytes text ≡ whole_line_text part.entry line) }
 {
     let [_, ..] = part.ahead else {
         return Ok(String::new(alloc));
     };
-    numbered_text(alloc, input_line(part, place))
+    numbered_text(alloc, whole_line(part, line))
+}
+
+/// The line of a place of a part in the whole input; nothing where the part is the whole.
+#[tactic(auto, using(crate::proofs::WholeInput::same_text, crate::proofs::WholeInput::few_lines))]
+pub fn input_line_text(alloc: Global, part: Part<'_>, place: usize) -> Result<String, AllocError>
+    ensures { IfOk result (λ text. string_bytes text ≡ input_line_text part.entry place) }
+{
+    whole_line_text(alloc, part, line_number(part.bytes, place))
 }
 
 /// Says a sentence of a place of a part in one line, as `point_out` does, and behind it the line in

@@ -4,18 +4,19 @@ ghost use Rattle.std.specs.Prelude.{slice_get, string_bytes, take, if◌then◌e
 ghost use Rattle.prog_tree.specs.Tree.{draft_tree};
 ghost use Rattle.text_places.specs.Landmarks.{HasNoJob, IsJobPlace};
 ghost use Rattle.run_words.specs.EachLine.{TellsEach};
+ghost use Rattle.run_words.specs.JobSpots.{IsSpot};
 ghost use Rattle.run_words.specs.Limits.{most_told};
 ghost use Rattle.run_words.specs.LostJobs.{is_lost_by, more_text, numbers_lost, place_text};
 ghost use Rattle.run_words.specs.LostJobs.{IsJobLine, IsJobText, TellsJob, TellsLosses, TellsLost};
 
-use crate::in_input::{Part, input_line_text};
+use crate::in_input::{Part, whole_line_text};
 use crate::job_reasons::job_sentence;
 use crate::job_spots::{FRONT, Spot, spot_of};
 use crate::limits::MAX_TOLD;
 use prog_check::ProgramSet;
 use si_workers::{Job, JobOutcome, Way};
 use std::alloc::{AllocError, Global};
-use text_places::{line_number, visible_text};
+use text_places::visible_text;
 
 // Whether the job of a number ended in a way.
 fn is_lost_by(way: Way, outcomes: &[JobOutcome], number: usize) -> bool
@@ -58,11 +59,13 @@ pub struct ToldJobs<'a> {
     pub outcomes: &'a [JobOutcome],
 }
 
-fn place_text(alloc: Global, part: Part<'_>, place: usize) -> Result<String, AllocError>
-    ensures { IfOk result (λ text. string_bytes text ≡ place_text part.entry place) }
+#[tactic(auto, using(crate::proofs::WholeInput::same_text, crate::proofs::WholeInput::few_lines))]
+fn place_text(alloc: Global, part: Part<'_>, spot: Spot) -> Result<String, AllocError>
+    requires { IsSpot part.bytes.now spot }
+    ensures { IfOk result (λ text. string_bytes text ≡ place_text part.entry spot.place) }
 {
-    let line = line_number(part.bytes, place);
-    let whole = input_line_text(alloc, part, place)?;
+    let line = spot.line;
+    let whole = whole_line_text(alloc, part, line)?;
     format!(in alloc; "line {line}{whole}")
 }
 
@@ -74,11 +77,12 @@ fn job_text(
     spot: Option<Spot>,
 ) -> Result<String, AllocError>
     requires job { IfSome spot (λ spot. IsJobPlace part.bytes.now number spot.place) }
+    requires spot { IfSome spot (IsSpot part.bytes.now) }
     requires none { IfNone spot (HasNoJob part.bytes.now number) }
     ensures { IfOk result (λ text. IsJobText part.entry number (string_bytes text)) }
 {
     match spot {
-        Some(spot) => place_text(alloc, part, spot.place),
+        Some(spot) => place_text(alloc, part, spot),
         None => format!(in alloc; "job {number}"),
     }
 }
@@ -92,6 +96,7 @@ fn job_line(
     sentence: &str,
 ) -> Result<String, AllocError>
     requires job { IfSome spot (λ spot. IsJobPlace part.bytes.now number spot.place) }
+    requires spot { IfSome spot (IsSpot part.bytes.now) }
     requires none { IfNone spot (HasNoJob part.bytes.now number) }
     ensures { IfOk result (λ line. IsJobLine part.entry number sentence.now (string_bytes line)) }
 {
