@@ -1,5 +1,5 @@
 -- Keys that compare equal, and what is noted at them.
-use Rattle.std.proofs.Common.{◌≡◌, ℕ, refl, ap, ◌∙◌, Bool, ◌&&◌, ◌==◌, List, [], ◌∷◌, ℤ, arith, if◌then◌else◌}
+use Rattle.std.proofs.Common.{◌≡◌, ℕ, refl, ap, ◌∙◌, Bool, true, false, ◌&&◌, ◌==◌, List, [], ◌∷◌, ℤ, arith, if◌then◌else◌}
 use Rattle.std.specs.Cmp.Lexicographic.{slice_cmp, pointwise}
 use Rattle.std.specs.Ordering.{nat_cmp, int_cmp, int_eq, ordering_then, is_eq}
 use Rattle.std.specs.declared.cmp.Ordering.{Ordering}
@@ -68,11 +68,25 @@ cause-tie Overflow Overflow = refl
 pub abort-tie : (a b : AbortKey) → is_eq (abort_cmp a b) ≡ (is_same_call (call_at b.call) (call_at a.call) && is_same_cause (cause_at b.cause) (cause_at a.cause))
 abort-tie a b = then-tie (call_cmp a.call b.call) (cause_cmp a.cause b.cause) ∙ both _ _ _ _ (call-tie a.call b.call) (cause-tie a.cause b.cause)
 
+-- three tests, in the other order
+turned : (a b c d e f : Bool) → a ≡ d → b ≡ e → c ≡ f → (a && (b && c)) ≡ (f && (e && d))
+turned a b c d e f p q r = (λ i. p i && (q i && r i)) ∙ and_turned d e f
+  where
+    and_turned : (x y z : Bool) → (x && (y && z)) ≡ (z && (y && x))
+    and_turned true true true = refl
+    and_turned true true false = refl
+    and_turned true false true = refl
+    and_turned true false false = refl
+    and_turned false true true = refl
+    and_turned false true false = refl
+    and_turned false false true = refl
+    and_turned false false false = refl
+
 pub clash-tie : (a b : ClashKey) → is_eq (clash_cmp a b) ≡ (is_same_call (call_at b.call) (call_at a.call) && is_same_clash (clash_at b) (clash_at a))
 clash-tie a b =
-    then-tie (call_cmp a.call b.call) (ordering_then (cell_cmp a.cell b.cell) (nat_cmp a.number b.number))
-    ∙ both _ _ _ _ (call-tie a.call b.call)
-    (then-tie (cell_cmp a.cell b.cell) (nat_cmp a.number b.number) ∙ both _ _ _ _ ((eq_by_cmp_equiv cell_total).symm a.cell b.cell) (nat-tie a.number b.number))
+    then-tie (nat_cmp a.number b.number) (ordering_then (cell_cmp a.cell b.cell) (call_cmp a.call b.call))
+    ∙ ap (λ more. is_eq (nat_cmp a.number b.number) && more) (then-tie (cell_cmp a.cell b.cell) (call_cmp a.call b.call))
+    ∙ turned _ _ _ _ _ _ (nat-tie a.number b.number) ((eq_by_cmp_equiv cell_total).symm a.cell b.cell) (call-tie a.call b.call)
 
 -- ---- what is noted
 

@@ -7,4 +7,5 @@ mod JobVectors
 pub mod KeyLemmas
 mod RunLaws
 mod SharedLaws
+pub mod TallyLemmas
 mod Vectors

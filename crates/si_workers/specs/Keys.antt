@@ -42,4 +42,4 @@ abort_cmp a b = ordering_then (call_cmp a.call b.call) (cause_cmp a.cause b.caus
 
 abbrev pub clash_cmp : ClashKey → ClashKey → Ordering
 clash_cmp a b =
-    ordering_then (call_cmp a.call b.call) (ordering_then (cell_cmp a.cell b.cell) (nat_cmp a.number b.number))
+    ordering_then (nat_cmp a.number b.number) (ordering_then (cell_cmp a.cell b.cell) (call_cmp a.call b.call))

@@ -1,5 +1,5 @@
 -- How often keys are noted.
-use Rattle.std.specs.Prelude.{◌≡◌, ℕ, ◌+◌, ◌-◌, ◌^◌, min, nat_lt, List, length, slice_index_or, Option, None, Some, if◌then◌else◌}
+use Rattle.std.specs.Prelude.{◌≡◌, ℕ, ◌+◌, ◌-◌, ◌^◌, min, nat_lt, All, List, length, slice_index_or, Option, None, Some, if◌then◌else◌}
 use Rattle.std.specs.BTreeMap.{is_at}
 use Rattle.std.specs.Map.{lookup}
 use Rattle.std.specs.Option.{unwrap_or}
@@ -26,6 +26,14 @@ times_noted cmp (Some note) q = if is_at (cmp note.0) q then note.1 else 0
 -- each key was noted so many times, as far as a u64 can tell
 abbrev pub Tallies : {K : Type 0} → (K → K → Ordering) → (K → ℕ) → List (K × ℕ) → Type 0
 Tallies {K} cmp times t = (q : K) → count_in cmp t q ≡ min (times q) most
+
+-- each key of one was noted as often in the other
+abbrev pub IsCovered : {K : Type 0} → (K → K → Ordering) → (one other : List (K × ℕ)) → Type 0
+IsCovered cmp one other = All (λ note. count_in cmp other note.0 ≡ note.1) one
+
+-- each key was noted as often in both
+abbrev pub AreSameCounts : {K : Type 0} → (K → K → Ordering) → (one other : List (K × ℕ)) → Type 0
+AreSameCounts {K} cmp one other = (q : K) → count_in cmp one q ≡ count_in cmp other q
 
 -- counts of numbers: those of the first ones by their places, those of others with them
 pub record NumberCounts : Type 0 where

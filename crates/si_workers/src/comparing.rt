@@ -2,10 +2,8 @@
 
 ghost use Rattle.std.specs.Prelude.{◌≡◌, ◌↔◌, All, IsTrue, IfOk, IfNone, IfSome};
 ghost use Rattle.si_workers.specs.Assigned.{assigned_by};
-ghost use Rattle.si_workers.specs.Calls.{call_of};
-ghost use Rattle.si_workers.specs.Outcomes.{AreAsMany, AreClashesTold, AreCommitsTold};
-ghost use Rattle.si_workers.specs.Outcomes.{AreRightTries, Correspond, IsAllOfJobs, IsBroken};
-ghost use Rattle.si_workers.specs.Outcomes.{IsClashTold, IsCommitOf, IsFirstFallen, IsNamedOnce};
+ghost use Rattle.si_workers.specs.Outcomes.{AreCommitsTold, AreRightTries, Correspond, IsAllOfJobs};
+ghost use Rattle.si_workers.specs.Outcomes.{IsBroken, IsCommitOf, IsFirstFallen, IsNamedOnce};
 ghost use Rattle.si_workers.specs.Outcomes.{IsOfSomeJob, IsOver, IsRecordOf, IsRightEnd};
 ghost use Rattle.si_workers.specs.Outcomes.{IsRightRefusal, Stands, nearly_full};
 
@@ -174,65 +172,9 @@ fn are_all_of_some_job<'c>(counts: &Counts<'c>, endings: &'c [Ending]) -> bool
     true
 }
 
-fn is_clash_told<'c>(counts: &Counts<'c>, ending: &'c Ending) -> bool
-    ensures { IsTrue result ↔ IsClashTold counts.now.endings counts.now.tidings ending.now }
-{
-    match ending {
-        Ending::Committed(_) | Ending::Aborted { .. } => true,
-        Ending::Clashed { row, clash: _ } => counts.are_clashes_told(CallKey::row(row)),
-    }
-}
-
-// Whether as many clashes are told as kept, of the call of each ending.
-fn are_kept_clashes_told<'c>(counts: &Counts<'c>, endings: &'c [Ending]) -> bool
-    ensures { IsTrue result ↔ All (IsClashTold counts.now.endings counts.now.tidings) endings.now }
-{
-    for ending in endings {
-        if !is_clash_told(counts, ending) {
-            return false;
-        }
-    }
-    true
-}
-
-fn is_job_told<'c>(counts: &Counts<'c>, tiding: &Tiding<'c>) -> bool
-    ensures { IsTrue result
-        ↔ AreAsMany counts.now.endings counts.now.tidings (call_of tiding.now.0) }
-{
-    counts.are_clashes_told(CallKey::job(tiding.job))
-}
-
-// Whether as many clashes are kept as told, of the call of each job.
-fn are_told_clashes_kept<'c>(counts: &Counts<'c>, tidings: &[Tiding<'c>]) -> bool
-    ensures { IsTrue result
-        ↔ All (λ t. AreAsMany counts.now.endings counts.now.tidings (call_of t.0)) tidings.now }
-{
-    for tiding in tidings {
-        if !is_job_told(counts, tiding) {
-            return false;
-        }
-    }
-    true
-}
-
-fn are_all_clashes_told<'c>(
-    counts: &Counts<'c>,
-    endings: &'c [Ending],
-    tidings: &[Tiding<'c>],
-) -> bool
-    requires endings { counts.now.endings ≡ endings.now }
-    requires tidings { counts.now.tidings ≡ tidings.now }
-    ensures { IsTrue result ↔ AreClashesTold endings.now tidings.now }
-{
-    let kept = are_kept_clashes_told(counts, endings);
-    let told = are_told_clashes_kept(counts, tidings);
-    kept && told
-}
-
-fn is_whole<'c>(book: &'c Book<'_>, counts: &Counts<'c>, tidings: &[Tiding<'c>]) -> bool
+fn is_whole<'c>(book: &'c Book<'_>, counts: &Counts<'c>) -> bool
     requires endings { counts.now.endings ≡ book.now.endings }
-    requires tidings { counts.now.tidings ≡ tidings.now }
-    ensures { IsTrue result ↔ IsAllOfJobs book.now tidings.now }
+    ensures { IsTrue result ↔ IsAllOfJobs book.now counts.now.tidings }
 {
     if !are_all_commits_told(book, counts) {
         return false;
@@ -240,7 +182,7 @@ fn is_whole<'c>(book: &'c Book<'_>, counts: &Counts<'c>, tidings: &[Tiding<'c>])
     if !are_all_of_some_job(counts, book.endings()) {
         return false;
     }
-    are_all_clashes_told(counts, book.endings(), tidings)
+    counts.are_clashes_told()
 }
 
 /// Whether a book was opened with the set and the rows that were given.
@@ -273,7 +215,7 @@ pub fn broken<'c>(
     if !is_over(given, book) {
         return Ok(Some(0));
     }
-    if !is_whole(book, &counts, tidings) {
+    if !is_whole(book, &counts) {
         return Ok(Some(0));
     }
     Ok(None)

@@ -3,7 +3,8 @@
 ghost use Rattle.std.specs.Prelude.{◌≡◌, ◌↔◌, ◌<◌, IsTrue, IfOk};
 ghost use Rattle.si_workers.specs.KeptAndTold.{aborts_told, commits_told};
 ghost use Rattle.si_workers.specs.Keys.{call_at};
-ghost use Rattle.si_workers.specs.Outcomes.{AreAbortsTold, AreAsMany, IsClashKept, IsNamedOnce};
+ghost use Rattle.si_workers.specs.Outcomes.{AreAbortsTold, AreClashesTold, IsClashKept};
+ghost use Rattle.si_workers.specs.Outcomes.{IsNamedOnce};
 
 use crate::keys::{AbortKey, CallKey, ClashKey};
 use crate::tally::{NumberTally, Tally};
@@ -120,10 +121,10 @@ impl<'c> Counts<'c> {
         self.kept_clashes.count(&ClashKey::of(call, clash)) > 0
     }
 
-    /// Whether as many instances of a call clashed as its jobs tell.
-    pub fn are_clashes_told(&self, call: CallKey<'c>) -> bool
-        ensures { IsTrue result ↔ AreAsMany self.now.endings self.now.tidings (call_at call.entry) }
+    /// Whether as many instances of each call clashed as its jobs tell.
+    pub fn are_clashes_told(&self) -> bool
+        ensures { IsTrue result ↔ AreClashesTold self.now.endings self.now.tidings }
     {
-        self.kept_clashes_of.count(&call) == self.told_clashes_of.count(&call)
+        self.kept_clashes_of.is_same(&self.told_clashes_of)
     }
 }

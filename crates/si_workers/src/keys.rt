@@ -31,12 +31,12 @@ pub struct AbortKey<'c> {
     cause: CauseKey,
 }
 
-/// A call and its clash.
+/// A call and its clash. The number tells most of them apart, so it is compared first.
 #[derive(Clone, Copy, Debug, PartialEq, Eq, PartialOrd, Ord)]
 pub struct ClashKey<'c> {
-    call: CallKey<'c>,
-    cell: Cell,
     number: u64,
+    cell: Cell,
+    call: CallKey<'c>,
 }
 
 impl<'c> CallKey<'c> {
@@ -92,9 +92,9 @@ impl<'c> ClashKey<'c> {
         ensures clash { clash_at result ≡ clash }
     {
         ClashKey {
-            call,
-            cell: clash.cell,
             number: clash.number,
+            cell: clash.cell,
+            call,
         }
     }
 }

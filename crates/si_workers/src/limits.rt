@@ -9,7 +9,9 @@ pub const MAX_JOBS: usize = 100_000;
 /// A worker gives up old versions after every so many jobs that it ended.
 pub const VACUUM_AFTER: usize = 16;
 
-/// How often the lock is tried, with others let run, before a thread sleeps until it is free. A
-/// hold takes some ten microseconds, so it is mostly over before a thread would have slept and
-/// woken.
+/// How often the lock is tried before a thread sleeps until it is free. A hold takes some ten
+/// microseconds, so it is mostly over before a thread would have slept and woken.
 pub const TRIES: u32 = 2_000;
+
+/// After how many of these tries a thread only pauses. Behind the others it lets other threads run.
+pub const PAUSES: u32 = 10;

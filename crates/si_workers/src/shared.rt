@@ -6,12 +6,13 @@ ghost use Rattle.si_workers.specs.Freshness.{IsAtNumber, IsBeginAfter, IsFresh, 
 ghost use Rattle.si_workers.specs.HandedIn.{AreRowsOf, IsCommitAnswer, IsEndAnswer};
 
 use crate::fault::BeginAfterFault;
-use crate::limits::TRIES;
+use crate::limits::{PAUSES, TRIES};
 use history_book::{
     BeginFault, Book, CommitFault, EndFault, NoSuchTicket, Receipt, ScanFault, Ticket,
 };
 use prog_run::Run;
 use prog_tree::{Cell, Region, Sequence};
+use std::hint::spin_loop;
 use std::sync::{RwLock, RwLockReadGuard, RwLockWriteGuard, Wait};
 use std::thread::yield_now;
 
@@ -22,6 +23,18 @@ use std::thread::yield_now;
 #[derive(Drop)]
 pub struct SharedBook<'a> {
     lock: RwLock<Book<'a>>,
+}
+
+// Waits before the lock is tried again: for a pause that doubles with each turn, and then until
+// other threads had their turn.
+fn give_way(turn: u32) {
+    if turn < PAUSES {
+        for _pause in 0..1u32 << turn {
+            spin_loop();
+        }
+    } else {
+        yield_now();
+    }
 }
 
 // Begins an instance that has to see a receipt's commit. Where the book has fewer commits, it is
@@ -69,7 +82,7 @@ fn begin_there(
     book.begin_at(start, program, args)
 }
 
-fn rows_there(
+pub(crate) fn rows_there(
     book: &Book<'_>,
     ticket: &Ticket,
     region: &Region,
@@ -104,22 +117,22 @@ fn withdraw_there(book: &mut Book<'_>, ticket: Ticket) -> Result<(), Ticket>
 impl<'a> SharedBook<'a> {
     // The book to read in.
     pub(crate) fn reading(&self, rt: &impl Wait) -> RwLockReadGuard<'_, Book<'a>> {
-        for _try in 0..TRIES {
+        for turn in 0..TRIES {
             if let Some(book) = self.lock.try_read() {
                 return book;
             }
-            yield_now();
+            give_way(turn);
         }
         self.lock.read(rt)
     }
 
     // The book to change.
     fn writing(&self, rt: &impl Wait) -> RwLockWriteGuard<'_, Book<'a>> {
-        for _try in 0..TRIES {
+        for turn in 0..TRIES {
             if let Some(book) = self.lock.try_write() {
                 return book;
             }
-            yield_now();
+            give_way(turn);
         }
         self.lock.write(rt)
     }

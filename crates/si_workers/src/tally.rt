@@ -1,9 +1,9 @@
 //! How often things were noted.
 
 ghost use Rattle.std.specs.Ordering.{nat_cmp};
-ghost use Rattle.std.specs.Prelude.{◌≡◌, ℕ, [], IfOk, OnOk, sum_by};
-ghost use Rattle.si_workers.specs.Tally.{Tallies, TalliesNumbers, count_in, count_of, more};
-ghost use Rattle.si_workers.specs.Tally.{times_noted};
+ghost use Rattle.std.specs.Prelude.{◌≡◌, ◌↔◌, ℕ, [], IfOk, IsTrue, OnOk, sum_by};
+ghost use Rattle.si_workers.specs.Tally.{AreSameCounts, IsCovered, Tallies, TalliesNumbers};
+ghost use Rattle.si_workers.specs.Tally.{count_in, count_of, more, times_noted};
 
 use std::alloc::{AllocError, Global};
 use std::collections::BTreeMap;
@@ -53,9 +53,32 @@ impl<K: Ord + Drop> Tally<K> {
         ensures { OnOk result ((q : K) → count_in K.cmp self.new q
             ≡ more K.cmp key times q (count_in K.cmp self.old q)) }
     {
-        let count = self.count(&key).saturating_add(times);
-        self.counts.insert(key, count)?;
+        let entry = self.counts.entry(key)?;
+        let noted = entry.or_insert(0);
+        *noted = noted.saturating_add(times);
         Ok(())
+    }
+
+    // Whether each key of it was noted as often in another.
+    fn is_covered(&self, other: &Self) -> bool
+        ensures told { IsTrue result ↔ IsCovered K.cmp self.now other.now }
+        ensures own { IsCovered K.cmp self.now self.now }
+    {
+        for (key, count) in self.counts.iter() {
+            if other.count(key) != *count {
+                return false;
+            }
+        }
+        true
+    }
+
+    /// Whether each key was noted as often in another.
+    pub fn is_same(&self, other: &Self) -> bool
+        ensures { IsTrue result ↔ AreSameCounts K.cmp self.now other.now }
+    {
+        let covered = self.is_covered(other);
+        let covers = other.is_covered(self);
+        covered && covers
     }
 
     /// How often each key is noted by some things.

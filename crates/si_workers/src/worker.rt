@@ -2,6 +2,7 @@
 
 ghost use Rattle.std.specs.Prelude.{◌≡◌, ◌+◌, ◌<◌, ◌≤◌, ◌^◌, [], length, Some, IfOk};
 ghost use Rattle.prog_tree.specs.declared.deed.End.TheVariants.{Ready};
+ghost use Rattle.prog_run.specs.View.{asked_region};
 ghost use Rattle.job_counter.specs.Passes.{counter_of, name_of, numbers_of};
 ghost use Rattle.si_workers.specs.Ended.{ended_by_try};
 ghost use Rattle.si_workers.specs.LastAnswer.{IsLastAnswer};
@@ -16,7 +17,7 @@ use history_book::{BeginFault, CommitFault, EndFault, Ticket, Unused};
 use job_counter::{Counter, Pass};
 use prog_check::ProgramSet;
 use prog_run::{Next, Run};
-use prog_tree::{Cause, Cell, End, Region, Sequence};
+use prog_tree::{Cause, End, Region, Sequence};
 use std::alloc::Global;
 
 /// What a worker did: its pass, what came of its jobs, and whether memory ran out.
@@ -27,21 +28,24 @@ pub struct Done {
     pub no_memory: bool,
 }
 
-// The rows of a region, which the book is not asked for where the run has just looked at it.
-fn rows_for<'a, D: Desk<'a>>(
+// Answers a run that asks for a region. The book is not asked for what the run has just looked at.
+fn answer_region<'a, D: Desk<'a>>(
     alloc: Global,
     desk: &mut D,
     job: usize,
     ticket: &Ticket,
-    run: &Run<'a>,
+    run: &mut Run<'a>,
     region: &Region,
-) -> Result<Sequence<(Cell, i64)>, Stop>
+) -> Result<Next, Stop>
+    requires { asked_region run.old.asked ≡ Some region.now }
     ensures { D.ended desk.new ≡ D.ended desk.old }
 {
     if let Some(rows) = run.rows_again(region) {
-        return Ok(Sequence::from_slice(alloc, rows)?);
+        let copy = Sequence::from_slice(alloc, rows)?;
+        return Ok(run.answer_scan(copy)?);
     }
-    Ok(desk.scan(job, ticket, region)?)
+    let rows = desk.scan(job, ticket, region)?;
+    Ok(run.answer_rows(rows)?)
 }
 
 // One step of a run, with what it asks for read in the book.
@@ -60,10 +64,7 @@ fn step<'a, D: Desk<'a>>(
             let held = desk.get(job, ticket, &cell)?;
             Ok(run.answer_get(held)?)
         }
-        Next::Scan(region) => {
-            let rows = rows_for(alloc, desk, job, ticket, run, &region)?;
-            Ok(run.answer_scan(rows)?)
-        }
+        Next::Scan(region) => answer_region(alloc, desk, job, ticket, run, &region),
         next => Ok(next),
     }
 }

@@ -1,11 +1,12 @@
 use Rattle.std.proofs.Common.{◌≡◌, arith}
+use Rattle.std.specs.Prelude.{IfOk, IfErr}
 use Rattle.prog_tree.specs.Tree.{draft_tree}
 use Rattle.si_workers.specs.Assigned.{assigned}
-use Rattle.si_workers.specs.Work.{AreTaken}
+use Rattle.si_workers.specs.Work.{AreTaken, AreDone, IsWorkFault}
 use Rattle.si_workers.proofs.RunLaws.{promised, promised-lacking, safe-work, same-given}
 use Rattle.si_workers.proofs.run.do_jobs.Given.{Over}
 use Rattle.si_workers.proofs.run.do_jobs.Goals as goal
-use Rattle.si_workers.proofs.run.do_jobs.Goals.{After-into_book-book}
+use Rattle.si_workers.proofs.run.do_jobs.Goals.{After-into_book-book, After-settle}
 
 -- the jobs are taken, and the book is compared with what was given
 as_given :
@@ -20,11 +21,18 @@ as_given g c = (
   },
 )
 
-pub returns-clause-fault : goal.returns-clause-fault
-returns-clause-fault g c =
+-- what is promised of the work that was settled
+settled :
+    (g : Over) (c : After-settle g) →
+    IfOk c.settle.result (λ worked. AreDone (assigned c.args.workers (draft_tree c.args.set.now) c.args.opening) c.args.jobs.now worked.outcomes worked.book)
+    × IfErr c.settle.result (IsWorkFault (assigned c.args.workers (draft_tree c.args.set.now) c.args.opening) c.args.jobs.now)
+settled g c =
     let given = assigned c.args.workers (draft_tree c.args.set.now) c.args.opening in
-    let taken = as_given g (goal.at.returns-clause-fault g c).After-into_book-book in
-    (promised _ given c.args.jobs.now c.in-Ok-ran.done.items _ c.settle.result taken.0 taken.1 c.into_book-book.ensures c.settle.ensures).1
+    let taken = as_given g c.before.before in
+    promised _ given c.args.jobs.now c.in-Ok-ran.done.items _ c.settle.result taken.0 taken.1 c.into_book-book.ensures c.settle.ensures
+
+pub returns-clause-fault : goal.returns-clause-fault
+returns-clause-fault g c = (settled g (goal.at.returns-clause-fault g c).After-settle).1
 
 pub returns-in_default-ran-clause-fault : goal.returns-in_default-ran-clause-fault
 returns-in_default-ran-clause-fault g c =
@@ -33,14 +41,9 @@ returns-in_default-ran-clause-fault g c =
     promised-lacking _ given c.args.jobs.now _ c.book_over-book.result taken.0 taken.1 c.into_book-book.ensures c.book_over-book.ensures
 
 pub returns-clause-done : goal.returns-clause-done
-returns-clause-done g c =
-    let given = assigned c.args.workers (draft_tree c.args.set.now) c.args.opening in
-    let taken = as_given g (goal.at.returns-clause-done g c).After-into_book-book in
-    (promised _ given c.args.jobs.now c.in-Ok-ran.done.items _ c.settle.result taken.0 taken.1 c.into_book-book.ensures c.settle.ensures).0
+returns-clause-done g c = (settled g (goal.at.returns-clause-done g c).After-settle).0
 
 pub returns-clause-safe : goal.returns-clause-safe
 returns-clause-safe g c =
     let given = assigned c.args.workers (draft_tree c.args.set.now) c.args.opening in
-    let taken = as_given g (goal.at.returns-clause-safe g c).After-into_book-book in
-    safe-work given c.args.jobs.now c.settle.result c.set-programs.ensures.safe
-    (promised _ given c.args.jobs.now c.in-Ok-ran.done.items _ c.settle.result taken.0 taken.1 c.into_book-book.ensures c.settle.ensures).0
+    safe-work given c.args.jobs.now c.settle.result c.set-programs.ensures.safe (settled g (goal.at.returns-clause-safe g c).After-settle).0
