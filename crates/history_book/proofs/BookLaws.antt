@@ -1,8 +1,7 @@
 -- A book stays true.
-use Rattle.std.proofs.Common.{◌≡◌, ℕ, suc, ◌+◌, ◌<◌, ◌≤◌, cond, get_or, List, [], ◌∷◌, ◌++◌, length, refl, ap, sym, ◌∙◌, subst, true≢false, arith}
-use Rattle.std.specs.Prelude.{All, Option, Some, IsSome, None, is_some, slice_get}
+use Rattle.std.proofs.Common.{◌≡◌, ℕ, suc, ◌+◌, ◌<◌, ◌≤◌, cond, List, [], ◌∷◌, ◌++◌, length, refl, ap, sym, ◌∙◌, subst, true≢false, arith}
+use Rattle.std.specs.Prelude.{All, Option, Some, IsSome, None, is_some}
 use Rattle.std.specs.BTreeMap.{is_at}
-use Rattle.std.proofs.lemmas.Option.{slice_get-get_or}
 use Rattle.std.specs.List.{range_with_len}
 use Rattle.std.specs.List.Sorted.{IsStrictlySortedBy}
 use Rattle.std.specs.Map.{keys_of, lookup}
@@ -12,7 +11,6 @@ use Rattle.std.specs.declared.cmp.Ordering.TheVariants.{Equal}
 use Rattle.std.proofs.lemmas.List.{length-append, length-map, map-append}
 use Rattle.std.proofs.lemmas.List.Elements.{All-nil, All-push, All-weaker}
 use Rattle.prog_tree.specs.declared.program.Draft.{Draft}
-use Rattle.prog_tree.specs.declared.program.Program.{Program}
 use Rattle.prog_tree.specs.ChangeSet.{ChangeSet}
 use Rattle.prog_tree.specs.Table.{TableState}
 use Rattle.prog_tree.specs.Tree.{draft_tree}
@@ -265,12 +263,8 @@ least_above v book =
 pub least_within : (v : BookView) → least_start (length v.rows) v.active ≤ length v.rows
 least_within v = least-within (length v.rows) v.active
 
--- ---- commits and programs
+-- ---- commits
 
 -- the next number of a commit
 pub next_number : (endings : List Ending) (commits rows : ℕ) → commits ≡ rows → endings ++ ending.Committed (commits + 1) ∷ [] ≡ endings ++ ending.Committed (rows + 1) ∷ []
 next_number endings commits rows same = ap (λ n. endings ++ ending.Committed (n + 1) ∷ []) same
-
--- the item of a number
-pub item_at : (items : List Program) (n : ℕ) (p : Program) → n < length items → p ≡ get_or items n p → slice_get items n ≡ Some p
-item_at items n p within is = slice_get-get_or items n p within ∙ ap (λ (x : Program). Some x) (sym is)

@@ -316,7 +316,7 @@ late_next traces late next tell are = record {
 -- ---- tests that are left out
 
 -- where all holders below a number are tested, all below the first to be tested from there on are
-pub tested_first : (traces : List TraceView) (marks : List Bool) (next : List ℕ) (n from : ℕ) → AreNextLate traces next → 1 ≤ n →
+tested_first : (traces : List TraceView) (marks : List Bool) (next : List ℕ) (n from : ℕ) → AreNextLate traces next → 1 ≤ n →
     IsTestedBelow traces marks n from → IsTestedBelow traces marks n (first_tested next from n)
 tested_first traces marks next n from late some tested = go (nat_lt from n) refl
   where
@@ -337,3 +337,10 @@ first_after traces next n from late high = go (nat_lt from n)
     go : (b : Bool) → from ≤ (if b then from else slice_index next from)
     go true = omega arith
     go false = late.after from high
+
+-- so the tests go on there
+pub tested_on : (traces : List TraceView) (marks : List Bool) (next : List ℕ) (n from : ℕ) → AreNextLate traces next → 1 ≤ n → IsUpTo (length traces + 1) from →
+    IsTestedBelow traces marks n from → (1 ≤ first_tested next from n) × IsTestedBelow traces marks n (first_tested next from n)
+tested_on traces marks next n from late some up tested =
+    let after = first_after traces next n from late up.1 in
+    (omega (arith, up.0, after), tested_first traces marks next n from late some tested)

@@ -5,7 +5,7 @@ use Rattle.std.proofs.lemmas.Bool.{eq-eqb, cases_Bool, false≢true}
 use Rattle.std.proofs.lemmas.Bool.Decides.{nat_tests, eqb_tells}
 use Rattle.history_book.specs.Orders.{is_one_of, is_free, first_free, placed_by, least_order}
 use Rattle.history_book.specs.Precedence.{behind, precedes}
-use Rattle.history_book.specs.Placing.{times, waits_from, AreWaits, HoldsBack, IsStuck}
+use Rattle.history_book.specs.Placing.{times, waits_from, AreWaits, WaitsBefore, IsStuck}
 use Rattle.history_book.proofs.NumberLists.{Same, Either, one-push, times-none, times-some}
 use Rattle.history_book.proofs.WaitLaws.{waits-placed, waits-some, all-placed}
 use Rattle.history_book.proofs.LeastFree.{first-free, left_of, left-placed, left-none, left-some, times-range}
@@ -265,5 +265,5 @@ stuck-placing lists turn placed waits keys now more none = record {
         let long = now.counts.long in
         (w.0, omega arith, busy w.0 (omega arith) (omega arith) w.3)
 
-    for_one : (n : ℕ) → ((j : ℕ) × (j < length lists) × (is_one_of placed (1 + j) ≡ false) × (is_one_of (get_or lists j []) n ≡ true)) → (i : ℕ) × HoldsBack lists waits i n
+    for_one : (n : ℕ) → ((j : ℕ) × (j < length lists) × (is_one_of placed (1 + j) ≡ false) × (is_one_of (get_or lists j []) n ≡ true)) → (i : ℕ) × WaitsBefore lists waits i n
     for_one n w = let l = w.1 in (1 + w.0, (precedes-at lists n w.0 ∙ w.3, busy (1 + w.0) (omega arith) (omega arith) w.2))

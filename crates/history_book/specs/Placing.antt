@@ -51,14 +51,14 @@ abbrev pub HasToWait : (waits : List ℕ) → ℕ → Type 0
 HasToWait waits n = slice_index waits n ≢ 0
 
 -- a number that waits has to stand before another
-abbrev pub HoldsBack : List (List ℕ) → (waits : List ℕ) → (leader n : ℕ) → Type 0
-HoldsBack lists waits leader n = (precedes lists leader n ≡ true) × HasToWait waits leader
+abbrev pub WaitsBefore : List (List ℕ) → (waits : List ℕ) → (leader n : ℕ) → Type 0
+WaitsBefore lists waits leader n = (precedes lists leader n ≡ true) × HasToWait waits leader
 
 -- each number that waits does so for one that waits too, and there is one
 pub record IsStuck (lists : List (List ℕ)) (waits : List ℕ) : Type 0 where
   pub long : length waits ≡ length lists + 1
   pub waiting : (n : ℕ) × (n < length waits) × HasToWait waits n
-  pub for_one : (n : ℕ) → n < length waits → HasToWait waits n → (i : ℕ) × HoldsBack lists waits i n
+  pub for_one : (n : ℕ) → n < length waits → HasToWait waits n → (i : ℕ) × WaitsBefore lists waits i n
 
 -- a leader of the number is known
 abbrev pub HasLeader : (leaders : List ℕ) → ℕ → Type 0
@@ -67,7 +67,7 @@ HasLeader leaders n = slice_index leaders n ≢ 0
 -- for each number from 0 on, one that waits and has to stand before it; 0 where there is none
 pub record AreLeaders (lists : List (List ℕ)) (waits leaders : List ℕ) : Type 0 where
   pub long : length leaders ≡ length lists + 1
-  pub leads : (n : ℕ) → HasLeader leaders n → HoldsBack lists waits (slice_index leaders n) n
+  pub leads : (n : ℕ) → HasLeader leaders n → WaitsBefore lists waits (slice_index leaders n) n
   pub whole : (i n : ℕ) → precedes lists i n ≡ true → HasToWait waits i → HasLeader leaders n
 
 -- each leader has to stand before what it leads

@@ -101,7 +101,7 @@ impl<'a> Book<'a> {
             (IsRowFaultIn self.now row.now) }
     {
         read_numbers(row.args.as_slice());
-        let Some(program) = self.set.draft().programs.get(row.program) else {
+        let Some(program) = self.program(row.program) else {
             return Some(RowFault::NoSuchProgram);
         };
         if program.params.len() != row.args.len() {

@@ -1,7 +1,8 @@
 //! The book.
 
 ghost use Rattle.std.specs.Prelude.{◌≡◌, ◌≤◌, ℕ, false, List, Some, None, All, ◌↔◌, IsTrue, IfNone};
-ghost use Rattle.std.specs.Prelude.{IfSome, length, IfOk, IfErr, OnOk, OnErr, option_copied};
+ghost use Rattle.std.specs.Prelude.{IfSome, length, IfOk, IfErr, OnOk, OnErr};
+ghost use Rattle.std.specs.Prelude.{option_copied, slice_get};
 ghost use Rattle.prog_tree.specs.Number.{IsI64};
 ghost use Rattle.prog_run.specs.View.{IsTrueRun};
 ghost use Rattle.history_book.specs.Orders.{IsCycle, least_order};
@@ -33,7 +34,7 @@ use crate::orders::serial::serial_order;
 use crate::orders::trace::{Trace, are_commits};
 use prog_check::ProgramSet;
 use prog_run::Run;
-use prog_tree::{Cause, Cell, End, Region, Rows, Sequence};
+use prog_tree::{Cause, Cell, End, Program, Region, Rows, Sequence};
 use std::alloc::{AllocError, Global};
 use std::marker::Model;
 use version_store::Store;
@@ -212,11 +213,18 @@ impl<'a> Book<'a> {
         self.endings.len() + self.active.len() >= MAX_ENDINGS || self.begun == u64::MAX
     }
 
+    // The program of a number.
+    pub(crate) fn program(&self, number: usize) -> Option<&Program>
+        ensures { option_copied result ≡ slice_get self.now.set.programs.items number }
+    {
+        self.set.draft().programs.get(number)
+    }
+
     /// Why a begin at a number of commits would be refused, want of memory aside.
     pub fn refusal_at(&self, start: u64, program: usize, args: &[i64]) -> Option<BeginFault>
         ensures { result ≡ begin_at_fault_of self.now start program args.now }
     {
-        let Some(found) = self.set.draft().programs.get(program) else {
+        let Some(found) = self.program(program) else {
             return Some(BeginFault::NoSuchProgram);
         };
         if found.params.len() != args.len() {

@@ -1,4 +1,4 @@
-use Rattle.std.proofs.Common.{sym, subst, ap, ◌∙◌, IfOk, IfSome}
+use Rattle.std.proofs.Common.{sym, subst, ap, ◌∙◌, IfOk, IfSome, rules}
 use Rattle.prog_tree.specs.declared.look.Look.TheVariants as look
 use Rattle.prog_run.specs.declared.next.Next.TheVariants.{Get, Scan}
 use Rattle.prog_run.specs.Looks.{AreFound, region_look}
@@ -13,18 +13,8 @@ answer_rows-requires c =
     let asked = c.in_ok-next.ensures.advance.asked ∙ ap question_after c.in-Scan.is in
     no_scan_fault (state_in c.args.self.now c.args.start) c.advance.new.self.asked c.in-Scan.region _ asked c.in_ok-rows-in-Scan.ensures
 
-pub returns-in_ok-next-in-Get-clause-ok : goal.returns-in_ok-next-in-Get-clause-ok
-returns-in_ok-next-in-Get-clause-ok c =
-    let old = c.advance.new.self in
-    let new = c.answer_get.new.self in
-    let held = c.row_at-held.result in
-    let next = c.in_ok-next-in-Get.next in
-    let asked = c.in_ok-next.ensures.advance.asked ∙ ap question_after c.in-Get.is in
-    let answered = subst (λ r. IfOk r (λ next. IfSome (asked_cell old.asked) (λ cell. IsAnswered (look.One cell held) next old new))) c.in_ok-next-in-Get.ensures.ok c.answer_get.ensures.answered in
-    steps_behind (look.One c.in-Get.cell held) _ next _ old new (Get c.in-Get.cell) (ap question_after c.in-Get.is) c.in_ok-next.ensures.advance (answered_cell old new c.in-Get.cell held next asked answered)
-
-pub returns-in_ok-next-in-Get-clause-own : goal.returns-in_ok-next-in-Get-clause-own
-returns-in_ok-next-in-Get-clause-own c =
+pub returns-in_ok-next-in-Get : goal.returns-in_ok-next-in-Get
+returns-in_ok-next-in-Get c =
     let m = state_in c.args.self.now c.args.start in
     let old = c.advance.new.self in
     let new = c.answer_get.new.self in
@@ -32,25 +22,20 @@ returns-in_ok-next-in-Get-clause-own c =
     let next = c.in_ok-next-in-Get.next in
     let asked = c.in_ok-next.ensures.advance.asked ∙ ap question_after c.in-Get.is in
     let before = subst (AreFound m) (sym c.in_ok-next.ensures.advance.looks) c.requires.found in
-    let answered = subst (λ r. IfOk r (λ next. IfSome (asked_cell old.asked) (λ cell. IsAnswered (look.One cell held) next old new))) c.in_ok-next-in-Get.ensures.ok c.answer_get.ensures.answered in
+    let told = subst (λ r. IfOk r (λ next. IfSome (asked_cell old.asked) (λ cell. IsAnswered (look.One cell held) next old new))) c.in_ok-next-in-Get.ensures.ok c.answer_get.ensures.answered in
+    let answered = answered_cell old new c.in-Get.cell held next asked told in
     record {
-      found = found_cell m old new c.in-Get.cell held next c.row_at-held.ensures before (answered_cell old new c.in-Get.cell held next asked answered);
-      true_run = c.answer_get.ensures.true_run;
-      same = begun_as_first _ old new c.advance.ensures.same c.answer_get.ensures.same;
+      ok = steps_behind (look.One c.in-Get.cell held) _ next _ old new (Get c.in-Get.cell) (ap question_after c.in-Get.is) c.in_ok-next.ensures.advance answered;
+      own = record {
+        found = found_cell m old new c.in-Get.cell held next c.row_at-held.ensures before answered;
+        true_run = c.answer_get.ensures.true_run;
+        same = begun_as_first _ old new c.advance.ensures.same c.answer_get.ensures.same;
+      };
+      err = search rules;
     }
 
-pub returns-in_ok-next-in-Scan-clause-ok : goal.returns-in_ok-next-in-Scan-clause-ok
-returns-in_ok-next-in-Scan-clause-ok c =
-    let old = c.advance.new.self in
-    let new = c.answer_rows.new.self in
-    let rows = c.in_ok-rows-in-Scan.rows in
-    let next = c.in_ok-next-in-Scan.next in
-    let asked = c.in_ok-next.ensures.advance.asked ∙ ap question_after c.in-Scan.is in
-    steps_behind (region_look old.changes c.in-Scan.region rows) _ next _ old new (Scan c.in-Scan.region) (ap question_after c.in-Scan.is) c.in_ok-next.ensures.advance
-    (answered_region old new c.in-Scan.region rows next asked c.in_ok-next-in-Scan.ensures.answered)
-
-pub returns-in_ok-next-in-Scan-clause-own : goal.returns-in_ok-next-in-Scan-clause-own
-returns-in_ok-next-in-Scan-clause-own c =
+pub returns-in_ok-next-in-Scan : goal.returns-in_ok-next-in-Scan
+returns-in_ok-next-in-Scan c =
     let m = state_in c.args.self.now c.args.start in
     let old = c.advance.new.self in
     let new = c.answer_rows.new.self in
@@ -58,8 +43,13 @@ returns-in_ok-next-in-Scan-clause-own c =
     let next = c.in_ok-next-in-Scan.next in
     let asked = c.in_ok-next.ensures.advance.asked ∙ ap question_after c.in-Scan.is in
     let before = subst (AreFound m) (sym c.in_ok-next.ensures.advance.looks) c.requires.found in
+    let answered = answered_region old new c.in-Scan.region rows next asked c.in_ok-next-in-Scan.ensures.answered in
     record {
-      found = found_region m old new c.in-Scan.region rows next c.in_ok-rows-in-Scan.ensures before (answered_region old new c.in-Scan.region rows next asked c.in_ok-next-in-Scan.ensures.answered);
-      true_run = c.answer_rows.ensures.true_run;
-      same = begun_as_first _ old new c.advance.ensures.same c.answer_rows.ensures.same;
+      ok = steps_behind (region_look old.changes c.in-Scan.region rows) _ next _ old new (Scan c.in-Scan.region) (ap question_after c.in-Scan.is) c.in_ok-next.ensures.advance answered;
+      own = record {
+        found = found_region m old new c.in-Scan.region rows next c.in_ok-rows-in-Scan.ensures before answered;
+        true_run = c.answer_rows.ensures.true_run;
+        same = begun_as_first _ old new c.advance.ensures.same c.answer_rows.ensures.same;
+      };
+      err = search rules;
     }

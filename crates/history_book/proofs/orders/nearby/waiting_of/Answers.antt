@@ -1,7 +1,7 @@
 use Rattle.std.proofs.Common.{◌+◌, ◌∙◌, sym, arith}
 use Rattle.std.proofs.lemmas.Bool.{false≢true, true_from_ne_false}
 use Rattle.history_book.specs.Nearby.{is_marked}
-use Rattle.history_book.proofs.LateLaws.{first_after, tested_first}
+use Rattle.history_book.proofs.LateLaws.{first_after, tested_on}
 use Rattle.history_book.proofs.NearbyLaws.{over-tested, tested-next}
 use Rattle.history_book.proofs.orders.nearby.waiting_of.Goals as goal
 
@@ -11,14 +11,8 @@ loop-other-init c =
     let placed = c.args.placed.now in
     let next = c.args.next_late.now in
     let number = c.args.number in
-    let from = c.args.from in
-    let first = c.requires.from.0 in
-    let after = first_after traces next number from c.requires.late c.requires.from.1 in
-    rw c.first_tested-other.ensures
-    record {
-      some = omega (arith, first, after);
-      tested = tested_first traces placed next number from c.requires.late c.requires.number.0 c.requires.tested;
-    }
+    let on = tested_on traces placed next number c.args.from c.requires.late c.requires.number.0 c.requires.from c.requires.tested in
+    rw c.first_tested-other.ensures record { some = on.0; tested = on.1 }
 
 pub loop-other-smaller : goal.loop-other-smaller
 loop-other-smaller c =
@@ -39,14 +33,10 @@ loop-other-preserved c =
     let number = c.args.number in
     let other = c.loop-other.other in
     let within = c.requires.horizons.within number in
-    let after = first_after traces next number (other + 1) c.requires.late (omega (arith, within, c.loop-other-test.true)) in
     let tested = tested-next traces placed number other c.loop-other.invariant.tested (λ holder.
     true_from_ne_false (is_marked placed other) (λ unmarked. false≢true (sym c.if-holds.false ∙ c.in-Some.ensures.1 (unmarked, holder)))) in
-    rw c.first_tested-other-in-loop-other.ensures
-    record {
-      some = omega (arith, after);
-      tested = tested_first traces placed next number (other + 1) c.requires.late c.requires.number.0 tested;
-    }
+    let on = tested_on traces placed next number (other + 1) c.requires.late c.requires.number.0 (omega arith, omega (arith, within, c.loop-other-test.true)) tested in
+    rw c.first_tested-other-in-loop-other.ensures record { some = on.0; tested = on.1 }
 
 pub returns : goal.returns
 returns c =
