@@ -12,6 +12,7 @@ use Rattle.robust_cert.specs.Accepted.{IsAccepted}
 use Rattle.robust_cert.specs.Json.{certificate_text}
 use Rattle.robust_cert.specs.Pieces.{TextLeft, text_left}
 use Rattle.si_engine.specs.Writing.{AppendsFront, IsJust}
+use Rattle.si_engine.proofs.SinkLaws.{front_behind}
 use Rattle.si_repair.specs.Findings.{IsCertificateOf}
 use Rattle.sirob.specs.declared.command_fault.CommandFault.{CommandFault}
 use Rattle.sirob.specs.declared.command_line.Mode.TheVariants.{Certify}
@@ -21,7 +22,7 @@ use Rattle.sirob.specs.FaultLines.{is_memory}
 use Rattle.sirob.specs.Inputs.{AsksFew, IsChecked}
 use Rattle.sirob.specs.Refusal.{refusal_text}
 use Rattle.sirob.specs.Stops.{IsInputDone, IsStop, IsTextOrStop, WritesWithEnd, write_lost}
-use Rattle.sirob.proofs.StopLaws.{front_before, front_behind, stops_at_once}
+use Rattle.sirob.proofs.StopLaws.{front_before, stops_at_once}
 
 -- ---- pieces
 

@@ -1,7 +1,6 @@
 -- Laws on how a command stops, and on what is then written.
 use Rattle.std.proofs.Common.{◌≡◌, ◌⊎◌, inl, inr, ◌≤◌, ◌<◌, ◌-◌, ◌^◌, ◌+◌, ◌++◌, ℕ, Bool, true, false, List, [], ◌∷◌, length, map, take, drop, take-append-drop, take_at, append_assoc, append-nil, arith, Option, Some, None, Result, Ok, Err, IfOk, IfSome, refl, sym, subst, ap, ◌∙◌}
 use Rattle.std.proofs.KnownBytes.{Appends-nil, Appends-trans}
-use Rattle.std.proofs.Math.Seq.{take-append-add}
 use Rattle.std.proofs.lemmas.List.FromFn.{length-map-range_with_len}
 use Rattle.std.specs.Io.KnownBytes.{Appends}
 use Rattle.prog_tree.specs.declared.program.Draft.{Draft}
@@ -31,6 +30,7 @@ use Rattle.si_engine.specs.Sayings.{IsPartFault}
 use Rattle.si_engine.specs.Script.{script_of}
 use Rattle.si_engine.specs.Writing.{AppendsFront, WritesOr}
 use Rattle.si_engine.proofs.RunLaws.{longer_than}
+use Rattle.si_engine.proofs.SinkLaws.{front_behind, writes_as, writes_or_as}
 use Rattle.sirob.specs.declared.command_line.Mode.{Mode}
 use Rattle.sirob.specs.declared.command_line.Mode.TheVariants.{Check, Certify, Verify, Repair, Run, Audit, Work}
 use Rattle.sirob.specs.declared.command_fault.CommandFault.{CommandFault}
@@ -249,12 +249,6 @@ part_is_input mode input set part two has written (Err f) given = (
 
 -- ---- what is written
 
--- what is written so is written so too, where the end is told in other words
-pub writes_or_as : {D E : Type 0} (g : D → E) (lost : D) (P : List ℕ → D → Type 0) (Q : List ℕ → E → Type 0) (failed : Bool) (old new : Option (List ℕ)) (ended : D)
-    → ((written : List ℕ) (end : D) → P written end → Q written (g end)) → WritesOr lost P failed old new ended → WritesOr (g lost) Q failed old new (g ended)
-writes_or_as g lost P Q false old new ended turn (written, is, appends) = (written, turn written ended is, appends)
-writes_or_as g lost P Q true old new ended turn (lost_is, written, meant, is, appends) = (ap g lost_is, written, g meant, turn written meant is, appends)
-
 -- some first of the bytes are some first of them and others
 pub front_before : (old new : Option (List ℕ)) (first second : List ℕ) → AppendsFront old new first → AppendsFront old new (first ++ second)
 front_before old new first second (n, appends) =
@@ -262,11 +256,6 @@ front_before old new first second (n, appends) =
     let parted : front ++ (drop n first ++ second) ≡ first ++ second = sym (append_assoc front (drop n first) second) ∙ ap (λ l. l ++ second) (take-append-drop n first) in
     let same : take (length front) (first ++ second) ≡ front = ap (take (length front)) (sym parted) ∙ take_at front (drop n first ++ second) (length front) refl in
     (length front, subst (Appends old new) (sym same) appends)
-
--- bytes, and then some first of others
-pub front_behind : (old mid new : Option (List ℕ)) (first second : List ℕ) → Appends old mid first → AppendsFront mid new second → AppendsFront old new (first ++ second)
-front_behind old mid new first second appends (n, more) =
-    (length first + n, subst (Appends old new) (sym (take-append-add first second n)) (Appends-trans old mid new first (take n second) appends more))
 
 -- ---- what a command replies
 
@@ -359,7 +348,7 @@ pub done_of_part : (mode : Mode) (input : List ℕ) (set : DraftTree) (part : Li
     → parts_wanted mode ≡ 2 → IsSetAndPart input set part → WritesWithEnd (IsPartDone mode set part) failed old new ended
     → WritesWithEnd (IsInputDone mode input) failed old new ended
 done_of_part mode input set part failed old new ended two has writes =
-    writes_or_as (λ (e : Result Status CommandFault). e) (Err write_lost) (IsPartDone mode set part) (IsInputDone mode input) failed old new ended (part_is_input mode input set part two has) writes
+    writes_as (Err write_lost) (IsPartDone mode set part) (IsInputDone mode input) failed old new ended (part_is_input mode input set part two has) writes
 
 -- the source could not be read
 unread_source : (mode : Mode) (f : InputFault) (left : Option (List ℕ)) (source_failed : Bool)
@@ -382,7 +371,7 @@ pub done_of_source : (mode : Mode) (left : Option (List ℕ)) (source_failed : B
     → WritesWithEnd (IsSourceDone mode left source_failed) failed old new ended
 done_of_source mode left true items input failed old new ended same can works writes = absurd (works refl)
 done_of_source mode left false items input failed old new ended same can works writes =
-    writes_or_as (λ (e : Result Status CommandFault). e) (Err write_lost) (IsInputDone mode input) (IsSourceDone mode left false) failed old new ended turn writes
+    writes_as (Err write_lost) (IsInputDone mode input) (IsSourceDone mode left false) failed old new ended turn writes
   where
     turn : (written : List ℕ) (end : Result Status CommandFault) → IsInputDone mode input written end → IsSourceDone mode left false written end
     turn written end given = (items, can, subst (λ (l : List ℕ). IsInputDone mode l written end) same given)

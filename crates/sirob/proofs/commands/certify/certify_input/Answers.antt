@@ -1,16 +1,14 @@
-use Rattle.std.proofs.Common.{Result, Err, [], ◌∷◌, ◌++◌, subst}
+use Rattle.std.proofs.Common.{Err, [], ◌∷◌, ◌++◌, subst}
 use Rattle.prog_check.specs.Paths.{paths_of}
 use Rattle.prog_tree.specs.Tree.{draft_tree}
 use Rattle.robust_cert.specs.Json.{certificate_text}
+use Rattle.si_engine.proofs.SinkLaws.{writes_as}
 use Rattle.si_repair.specs.Findings.{IsRightFinding}
-use Rattle.sirob.specs.declared.command_fault.CommandFault.{CommandFault}
 use Rattle.sirob.specs.declared.command_line.Mode.TheVariants.{Certify}
-use Rattle.sirob.specs.declared.status.Status.{Status}
 use Rattle.sirob.specs.declared.status.Status.TheVariants as status
 use Rattle.sirob.specs.Refusal.{refusal_text}
 use Rattle.sirob.specs.Stops.{IsInputDone, IsTextOrStop, write_lost}
 use Rattle.sirob.proofs.PieceLaws.{certificate_done, refusal_done}
-use Rattle.sirob.proofs.StopLaws.{writes_or_as}
 use Rattle.sirob.proofs.commands.certify.certify_input.Goals as goal
 
 pub returns-in-Robust : goal.returns-in-Robust
@@ -19,7 +17,7 @@ returns-in-Robust g c =
     let set = draft_tree c.in_ok-set.set in
     let certificate = c.in-Robust.certificate in
     let right = subst (IsRightFinding (paths_of set)) c.in-Robust.is c.in_ok-set.ensures.ok.2 in
-    writes_or_as (λ (e : Result Status CommandFault). e) (Err write_lost) (IsTextOrStop (certificate_text certificate ++ 10 ∷ []) status.Done) (IsInputDone Certify input) _ _ _ _
+    writes_as (Err write_lost) (IsTextOrStop (certificate_text certificate ++ 10 ∷ []) status.Done) (IsInputDone Certify input) _ _ _ _
     (certificate_done input set certificate c.in_ok-set.ensures.ok.0 right.0 right.1) c.write_certificate-ended.ensures
 
 pub returns : goal.returns
@@ -28,5 +26,5 @@ returns g c =
     let set = draft_tree c.in_ok-set.set in
     let danger = c.in-Refused.danger in
     let least = subst (IsRightFinding (paths_of set)) c.in-Refused.is c.in_ok-set.ensures.ok.2 in
-    writes_or_as (λ (e : Result Status CommandFault). e) (Err write_lost) (IsTextOrStop (refusal_text set danger) status.Unserializable) (IsInputDone Certify input) _ _ _ _
+    writes_as (Err write_lost) (IsTextOrStop (refusal_text set danger) status.Unserializable) (IsInputDone Certify input) _ _ _ _
     (refusal_done input set danger c.in_ok-set.ensures.ok.0 c.in_ok-set.ensures.ok.1 least) c.write_refusal-ended.ensures
