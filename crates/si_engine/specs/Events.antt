@@ -1,7 +1,7 @@
 -- Events as short items, beside which the others are kept whole.
-use Rattle.std.specs.Prelude.{ℕ, ◌+◌, List, [], ◌∷◌, Option, Some, None}
+use Rattle.std.specs.Prelude.{ℕ, ◌+◌, ◌^◌, ◌<◌, ⊤, List, [], ◌∷◌, Option, Some, None}
 use Rattle.si_engine.specs.declared.event.Event.{Event}
-use Rattle.si_engine.specs.declared.event.Event.TheVariants.{Step, Commit, Abort, Vacuum}
+use Rattle.si_engine.specs.declared.event.Event.TheVariants.{Begin, BeginAt, Step, Commit, Abort, Vacuum}
 use Rattle.si_engine.specs.declared.input.events.Item.{Item}
 use Rattle.si_engine.specs.declared.input.events.Item.TheVariants as item
 use Rattle.si_engine.specs.declared.input.events.NextEvent.{NextEvent}
@@ -14,6 +14,15 @@ said_by (item.Commit instance) = Some (Commit instance)
 said_by (item.Abort instance) = Some (Abort instance)
 said_by item.Vacuum = Some Vacuum
 said_by item.Kept = None
+
+-- an event has an item of its own: it is no begin, and its instance's number has room in 32 bits
+abbrev pub HasItem : Event → Type 0
+HasItem (Step instance) = instance < 2 ^ 32
+HasItem (Commit instance) = instance < 2 ^ 32
+HasItem (Abort instance) = instance < 2 ^ 32
+HasItem Vacuum = ⊤
+HasItem (Begin program args) = ⊥
+HasItem (BeginAt start program args) = ⊥
 
 -- an event before others, or else the first of those that are kept
 abbrev pub before_others : Option Event → (List Event → List Event) → (kept : List Event) → List Event

@@ -1,7 +1,7 @@
 //! Events in eight bytes each.
 ghost use Rattle.std.specs.Prelude.{◌≡◌, [], ◌∷◌, ◌++◌, length, Some, OnOk, OnErr, IfSome};
-ghost use Rattle.std.specs.Prelude.{MatchOption};
-ghost use Rattle.si_engine.specs.Events.{next_event, said_by};
+ghost use Rattle.std.specs.Prelude.{MatchOption, IsSome, ◌↔◌};
+ghost use Rattle.si_engine.specs.Events.{next_event, said_by, HasItem};
 
 use crate::event::Event;
 use prog_tree::Sequence;
@@ -21,7 +21,8 @@ pub enum Item {
 impl Item {
     // An event as an item that says it, where there is one.
     fn of(event: &Event) -> Option<Item>
-        ensures { IfSome result (λ item. said_by item ≡ Some event.now) }
+        ensures said { IfSome result (λ item. said_by item ≡ Some event.now) }
+        ensures short { IsSome result ↔ HasItem event.now }
     {
         match event {
             Event::Step(instance) => u32::try_from(*instance).ok().map(Item::Step),

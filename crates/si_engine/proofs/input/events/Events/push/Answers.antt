@@ -6,7 +6,7 @@ use Rattle.si_engine.proofs.input.events.Events.push.Goals as goal
 
 pub invariant_of-self-in-Some-3 : goal.invariant_of-self-in-Some-3
 invariant_of-self-in-Some-3 c =
-    let counted = counts_said c.self.inside.items.items (length c.self.inside.kept) c.in-Some.item c.args.event c.self.invariant c.in-Some.ensures in
+    let counted = counts_said c.self.inside.items.items (length c.self.inside.kept) c.in-Some.item c.args.event c.self.invariant c.in-Some.ensures.said in
     search rules
 
 pub invariant_of-self-in-None : goal.invariant_of-self-in-None
@@ -16,7 +16,7 @@ invariant_of-self-in-None c =
 
 pub returns-in-Some-clause-ok : goal.returns-in-Some-clause-ok
 returns-in-Some-clause-ok c =
-    let more = says_one_more c.self.inside.items.items c.self.inside.kept c.in-Some.item c.args.event c.self.invariant c.in-Some.ensures in
+    let more = says_one_more c.self.inside.items.items c.self.inside.kept c.in-Some.item c.args.event c.self.invariant c.in-Some.ensures.said in
     elim c.match-event-2.branch [ in-Begin-2 w ↦ search rules | in-BeginAt-2 w ↦ search rules | in-Step-2 w ↦ search rules ]
 
 pub returns-in_ok-push-in-None-clause-ok : goal.returns-in_ok-push-in-None-clause-ok
