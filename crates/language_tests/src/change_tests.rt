@@ -1,7 +1,8 @@
 //! Cells, rows, changes and what a run has done, as a reader works them out.
 
+use crate::played::{CELL_1_0, CELL_2_0};
 use crate::told::is_told;
-use prog_tree::{Cell, Changes, Env, Progress, Region, RisingCells, Rows, Sequence};
+use prog_tree::{Cell, Changes, Env, Progress, Region, RisingCells, Rows, Sequence, SharedRows};
 use std::alloc::{AllocError, Global};
 use std::process::Abort;
 
@@ -231,6 +232,19 @@ fn a_sequence_is_its_items(rt: HostRuntime) -> Result<(), AllocError> {
     assert!(rt; copy.as_slice() == [3, -4].as_slice());
     again.truncate(1);
     assert!(rt; again.as_slice() == [3].as_slice() && !again.is_empty());
+    Ok(())
+}
+
+/// The rows of two cells that a look found.
+const TWO_ROWS: [(Cell, i64); 2] = [(CELL_1_0, 9), (CELL_2_0, 4)];
+
+#[test]
+fn shared_rows_outlive_the_look_that_found_them(rt: HostRuntime) -> Result<(), AllocError> {
+    let found = SharedRows::new(Sequence::from_slice(rt.alloc(), &TWO_ROWS)?)?;
+    assert!(rt; found.as_slice() == TWO_ROWS.as_slice());
+    let again = found.share()?;
+    drop(found);
+    assert!(rt; again.as_slice() == TWO_ROWS.as_slice());
     Ok(())
 }
 

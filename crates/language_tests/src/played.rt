@@ -4,7 +4,7 @@ use crate::told::is_told;
 use example_sets::set_of;
 use prog_check::ProgramSet;
 use prog_run::{AnswerFault, Look, Next, Run};
-use prog_tree::{Cell, Region, Sequence};
+use prog_tree::{Cell, Region, Sequence, SharedRows};
 use std::alloc::{AllocError, Global};
 use std::process::Abort;
 use std::test::Fail;
@@ -68,7 +68,8 @@ fn shown_look(alloc: Global, look: &Look) -> Result<String, AllocError> {
     match look {
         Look::One(cell, held) => format!(in alloc; "{cell:?} {held:?}"),
         Look::Range { own, rows, .. } => {
-            format!(in alloc; "{:?} and {} others", own.as_slice(), rows.len())
+            let (own, others) = (own.as_slice(), rows.as_slice().len());
+            format!(in alloc; "{own:?} and {others} others")
         }
     }
 }
@@ -94,7 +95,8 @@ fn shown_state(alloc: Global, run: &Run<'_>) -> Result<String, AllocError> {
 
 /// The rows that the last look found, where it was at the cells from 1 to 3, and where from 1 to 2.
 fn shown_again(alloc: Global, run: &Run<'_>) -> Result<String, AllocError> {
-    let (same, other) = (run.rows_again(&ONE_TO_THREE), run.rows_again(&ONE_TO_TWO));
+    let same = run.rows_again(&ONE_TO_THREE).map(|rows| rows.as_slice());
+    let other = run.rows_again(&ONE_TO_TWO).map(|rows| rows.as_slice());
     format!(in alloc; "{same:?} {other:?}")
 }
 
@@ -124,8 +126,8 @@ fn shown_answer(alloc: Global, answer: Result<Next, AnswerFault>) -> Result<Stri
     }
 }
 
-/// The answer that a word gives: these rows, that a cell holds nothing, or the number that it
-/// holds.
+/// The answer that a word gives: these rows, the same as looks share them, that a cell holds
+/// nothing, or the number that it holds.
 fn answered(
     alloc: Global,
     run: &mut Run<'_>,
@@ -136,6 +138,10 @@ fn answered(
         "rows" => {
             let rows = Sequence::from_slice(alloc, rows)?;
             Ok(Some(run.answer_scan(rows)))
+        }
+        "shared" => {
+            let rows = SharedRows::new(Sequence::from_slice(alloc, rows)?)?;
+            Ok(Some(run.answer_shared(rows)))
         }
         "none" => Ok(Some(run.answer_get(None))),
         _ => match word.parse::<i64>() {

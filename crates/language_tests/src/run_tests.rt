@@ -8,7 +8,7 @@ use crate::told::is_told;
 use example_sets::{SMALL_BANK, set_of};
 use prog_check::ProgramSet;
 use prog_run::{Deed, Next, Run};
-use prog_tree::{Cell, Region, Sequence};
+use prog_tree::{Cell, Region, Sequence, SharedRows};
 use std::alloc::{AllocError, Global};
 use std::process::Abort;
 use std::test::Fail;
@@ -75,7 +75,7 @@ none: not asked
 rows: Did(Counted(Region { table: 0, first_low: 7, first_high: 7, second_low: 1, second_high: 3 }, 2))
 look: [Cell { table: 0, first: 7, second: 1 }, Cell { table: 0, first: 7, second: 2 }] and 1 others
 advance: Scan(Region { table: 0, first_low: 7, first_high: 7, second_low: 1, second_high: 3 })
-rows: Did(Summed(Region { table: 0, first_low: 7, first_high: 7, second_low: 1, second_high: 3 }, 9))
+shared: Did(Summed(Region { table: 0, first_low: 7, first_high: 7, second_low: 1, second_high: 3 }, 9))
 advance: Done(Ready)
 advance: Done(Ready)
 state: 4 2 [2, 9] Some(Ready)",
@@ -96,6 +96,7 @@ advance: Did(Put(Cell { table: 0, first: 7, second: 2 }, 5))
 advance: Did(Removed(Cell { table: 0, first: 7, second: 1 }))
 advance: Scan(Region { table: 0, first_low: 7, first_high: 7, second_low: 1, second_high: 3 })
 rows: bad rows
+shared: bad rows
 advance: Scan(Region { table: 0, first_low: 7, first_high: 7, second_low: 1, second_high: 3 })
 state: 2 0 [] None",
 };
@@ -245,7 +246,8 @@ fn asked_for(rt: &impl Abort, run: &mut Run<'_>) -> Region
 fn take_known(rt: &impl Abort, alloc: Global, set: &ProgramSet) {
     let mut run = Run::new(alloc, set, 0, &[]).expect(rt, "a run");
     let region = asked_for(rt, &mut run);
-    let next = run.answer_rows(Sequence::new(alloc)).expect(rt, "memory");
+    let rows = SharedRows::new(Sequence::new(alloc)).expect(rt, "memory");
+    let next = run.answer_rows(rows).expect(rt, "memory");
     assert!(rt; next == Next::Did(Deed::Summed(region, 0)));
 }
 

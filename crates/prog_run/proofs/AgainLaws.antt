@@ -17,13 +17,12 @@ one_found m (k ∷ ks) zero l at found = let same : k ≡ l = cc in subst (IsFou
 one_found m (k ∷ ks) (suc n) l at found = one_found m ks n l at found.1
 
 -- a look whose parts are these
-pub same_look : (looks : List Look) (looked region : Region) (own : List Cell) (rows told : TableState) → last_look looks ≡ Some (look.Range looked own rows) → own ≡ [] → looked ≡ region → told ≡ rows →
-    last_look looks ≡ Some (look.Range region [] told)
-same_look looks looked region own rows told last none same is =
+pub same_look : (looks : List Look) (looked region : Region) (own : List Cell) (rows : TableState) → last_look looks ≡ Some (look.Range looked own rows) → own ≡ [] → looked ≡ region →
+    last_look looks ≡ Some (look.Range region [] rows)
+same_look looks looked region own rows last none same =
     last
     ∙ ap (λ cells. Some (look.Range looked cells rows)) none
     ∙ ap (λ r. Some (look.Range r [] rows)) same
-    ∙ ap (λ rs. Some (look.Range region [] rs)) (sym is)
 
 pub held_again : (looks : List Look) (region : Region) (rows : TableState) → last_look looks ≡ Some (look.Range region [] rows) → (m : TableState) → AreFound m looks → rows ≡ rows_in region m
 held_again looks region rows last m found =

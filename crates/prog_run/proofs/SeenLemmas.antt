@@ -68,10 +68,6 @@ all_among (e ∷ es) = (among_itself e.0 (cells_of es), among_more e.0 (cells_of
 pub own_absent : (m : TableState) (own : ChangedCells) → AreAbsent (rows_without (cells_of own) m) own
 own_absent m own = are_absent (cells_of own) m own (all_among own)
 
--- a row stays where its cell is told not to be among some cells
-pub told_left : (own : List Cell) (c : Cell) (r b : Bool) → r ≡ is_cell_among own c → b ≡ not r → b ≡ not (is_cell_among own c)
-told_left own c r b tells is = is ∙ ap not tells
-
 cells_of-in : (r : Region) (es : ChangedCells) → cells_of (changes_in r es) ≡ filter (is_in r) (cells_of es)
 cells_of-in r [] = refl
 cells_of-in r (e ∷ es) =

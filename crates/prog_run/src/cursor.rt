@@ -19,8 +19,8 @@ use crate::statement::{OVERFLOW, begin, count_rows, sum_rows};
 use crate::task::{RegionUse, task_of};
 use prog_check::ProgramSet;
 use prog_tree::{
-    Block, Cause, Cell, Deed, End, Expr, Listing, Look, Name, Progress, Region, Sequence, Stmt,
-    Test,
+    Block, Cause, Cell, Deed, End, Expr, Listing, Look, Name, Progress, Region, Sequence,
+    SharedRows, Stmt, Test,
 };
 use std::alloc::AllocError;
 use std::mem;
@@ -262,7 +262,7 @@ impl<'a> Cursor<'a> {
         progress: &mut Progress<'a>,
         region: Region,
         usage: RegionUse<'a>,
-        rows: Sequence<(Cell, i64)>,
+        rows: SharedRows,
     ) -> Result<Step<'a>, AllocError>
         ensures flow { IfOk result
             (λ s. IsRegionAnswered (region_use_tree usage.entry) region rows s progress.old
@@ -289,7 +289,7 @@ impl<'a> Cursor<'a> {
         looks: &mut Vec<Look>,
         region: Region,
         usage: RegionUse<'a>,
-        rows: Sequence<(Cell, i64)>,
+        rows: SharedRows,
     ) -> Result<Step<'a>, AllocError>
         ensures look { OnOk result (looks.new.items
             ≡ looks.old.items ++ region_look progress.old.changes region rows ∷ []) }

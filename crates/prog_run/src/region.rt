@@ -10,7 +10,7 @@ ghost use Rattle.prog_tree.specs.Value.{exact};
 ghost use Rattle.prog_run.specs.Looks.{AreFound, IsFoundLast, region_look, seen_rows};
 ghost use Rattle.prog_run.specs.Seen.{rows_before, AreAbsent, seen_by};
 
-use prog_tree::{Cell, Changes, Look, Region, RisingCells, Sequence};
+use prog_tree::{Cell, Changes, Look, Region, RisingCells, Sequence, SharedRows};
 use std::alloc::{AllocError, Global};
 
 /// What a look at a region found.
@@ -19,7 +19,7 @@ pub struct Found {
     /// The cells of the region that the run had changed.
     pub own: RisingCells,
     /// The rows of all other cells.
-    pub rows: Sequence<(Cell, i64)>,
+    pub rows: SharedRows,
     /// The rows with the run's own changes among them, where it has made some.
     pub changed: Option<Sequence<(Cell, i64)>>,
 }
@@ -44,7 +44,7 @@ pub fn are_in(region: &Region, rows: &[(Cell, i64)]) -> bool
 }
 
 /// The rows that the last look found, where it was at just this region and left no cells out.
-pub fn found_last<'l>(looks: &'l [Look], region: &Region) -> Option<&'l [(Cell, i64)]>
+pub fn found_last<'l>(looks: &'l [Look], region: &Region) -> Option<&'l SharedRows>
     ensures last { IsFoundLast looks.now region.now (option_copied result) }
     ensures held { IfSome result (λ rows. (m : TableState) →
         AreFound m looks.now → rows.now ≡ rows_in region.now m) }
@@ -57,7 +57,7 @@ pub fn found_last<'l>(looks: &'l [Look], region: &Region) -> Option<&'l [(Cell, 
             region: looked,
             own,
             rows,
-        } if own.is_empty() && looked.is_same(region) => Some(rows.as_slice()),
+        } if own.is_empty() && looked.is_same(region) => Some(rows),
         _ => None,
     }
 }
@@ -94,11 +94,21 @@ fn changed_cells(alloc: Global, own: &[(Cell, Option<i64>)]) -> Result<Vec<Cell>
     Ok(cells)
 }
 
-// Takes away the rows of some cells.
-fn remove_own(rows: &mut Vec<(Cell, i64)>, own: &RisingCells)
-    ensures { rows.new.items ≡ rows_without own.now rows.old.items }
+// The rows but for those of some cells.
+fn without_own(
+    alloc: Global,
+    rows: &[(Cell, i64)],
+    own: &RisingCells,
+) -> Result<Vec<(Cell, i64)>, AllocError>
+    ensures { IfOk result (λ left. left.items ≡ rows_without own.now rows.now) }
 {
-    rows.retain(|(cell, _)| !own.contains(cell));
+    let mut left = Vec::with_capacity(alloc, rows.len())?;
+    for row in rows {
+        if !own.contains(&row.0) {
+            left.push(*row)?;
+        }
+    }
+    Ok(left)
 }
 
 // How many rows stand in front whose cells come before this one.
@@ -175,7 +185,7 @@ pub fn look_at_region(
     alloc: Global,
     changes: &Changes,
     region: Region,
-    rows: Sequence<(Cell, i64)>,
+    rows: SharedRows,
 ) -> Result<Found, AllocError>
     ensures look { IfOk result (λ found.
         Look.Range region found.own found.rows ≡ region_look changes.now region rows) }
@@ -191,12 +201,12 @@ pub fn look_at_region(
     }
     let own_cells = changed_cells(alloc, &own)?;
     let left_out = RisingCells::from_vec(own_cells);
-    let mut rows = rows.into_vec();
-    remove_own(&mut rows, &left_out);
-    let seen = merge(alloc, &rows, &own)?;
+    let left = without_own(alloc, rows.as_slice(), &left_out)?;
+    let seen = merge(alloc, &left, &own)?;
+    let rows = SharedRows::new(Sequence::from_vec(left))?;
     Ok(Found {
         own: left_out,
-        rows: Sequence::from_vec(rows),
+        rows,
         changed: Some(Sequence::from_vec(seen)),
     })
 }

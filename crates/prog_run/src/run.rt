@@ -18,7 +18,7 @@ use crate::statement::answer_cell;
 use crate::task::Asked;
 use prog_check::ProgramSet;
 use prog_tree::{
-    Cell, Changes, End, Env, Look, Name, Program, Progress, Region, Sequence, TableDecl,
+    Cell, Changes, End, Env, Look, Name, Program, Progress, Region, Sequence, SharedRows, TableDecl,
 };
 use std::alloc::{AllocError, Global};
 use std::marker::Model;
@@ -180,7 +180,22 @@ impl<'a> Run<'a> {
         if let Some(fault) = self.rows_fault(rows.as_slice()) {
             return Err(fault);
         }
+        let rows = SharedRows::new(rows)?;
         Ok(self.answer_rows(rows)?)
+    }
+
+    /// Answers as `answer_scan` does, with rows that looks share.
+    pub fn answer_shared(&mut self, shared: SharedRows) -> Result<Next, AnswerFault>
+        ensures refused { IsRefusedBy (scan_fault (asked_region self.old.asked) shared) result }
+        ensures answered { IfOk result (λ next. IsRowsAnswered shared next self.old self.new) }
+        ensures true_run { IsTrueRun self.new }
+        ensures same { SameBegin self.old self.new }
+        ensures err { OnErr result (self.new ≡ self.old) }
+    {
+        if let Some(fault) = self.rows_fault(shared.as_slice()) {
+            return Err(fault);
+        }
+        Ok(self.answer_rows(shared)?)
     }
 
     // The region whose rows it asks for, if it does.
@@ -208,7 +223,7 @@ impl<'a> Run<'a> {
 
     /// Answers as `answer_scan` does, for a caller that knows that the run asks for rows, and that
     /// these lie in its region: they are not tested.
-    pub fn answer_rows(&mut self, rows: Sequence<(Cell, i64)>) -> Result<Next, AllocError>
+    pub fn answer_rows(&mut self, rows: SharedRows) -> Result<Next, AllocError>
         requires { scan_fault (asked_region self.old.asked) rows ≡ None }
         ensures answered { IfOk result (λ next. IsRowsAnswered rows next self.old self.new) }
         ensures true_run { IsTrueRun self.new }
@@ -264,7 +279,7 @@ impl<'a> Run<'a> {
 
     /// The rows of a region, where the last look was at just this one and the run had changed
     /// nothing there: the snapshot holds what that look found.
-    pub fn rows_again(&self, region: &Region) -> Option<&[(Cell, i64)]>
+    pub fn rows_again(&self, region: &Region) -> Option<&SharedRows>
         ensures last { IsFoundLast self.now.looks region.now (option_copied result) }
         ensures held { IfSome result (λ rows. (m : TableState) →
             AreFound m self.now.looks → rows.now ≡ rows_in region.now m) }

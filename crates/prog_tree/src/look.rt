@@ -4,7 +4,7 @@ ghost use Rattle.std.specs.Prelude.{◌≡◌, ◌↔◌, IsTrue};
 
 use crate::cell::{Cell, Region};
 use crate::rising::RisingCells;
-use crate::sequence::Sequence;
+use crate::shared_rows::SharedRows;
 
 /// What an instance found in its snapshot.
 #[derive(Debug, Drop)]
@@ -16,11 +16,11 @@ pub enum Look {
     Range {
         region: Region,
         own: RisingCells,
-        rows: Sequence<(Cell, i64)>,
+        rows: SharedRows,
     },
 }
 
-fn same_rows(rows: &Sequence<(Cell, i64)>, others: &Sequence<(Cell, i64)>) -> bool
+fn same_rows(rows: &SharedRows, others: &SharedRows) -> bool
     ensures { IsTrue result ↔ (rows.now ≡ others.now) }
 {
     rows.as_slice() == others.as_slice()

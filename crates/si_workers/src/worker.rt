@@ -17,7 +17,7 @@ use history_book::{BeginFault, CommitFault, EndFault, Ticket, Unused};
 use job_counter::{Counter, Pass};
 use prog_check::ProgramSet;
 use prog_run::{Next, Run};
-use prog_tree::{Cause, End, Region, Sequence};
+use prog_tree::{Cause, End, Region, Sequence, SharedRows};
 use std::alloc::Global;
 
 /// What a worker did: its pass, what came of its jobs, and whether memory ran out.
@@ -30,7 +30,6 @@ pub struct Done {
 
 // Answers a run that asks for a region. The book is not asked for what the run has just looked at.
 fn answer_region<'a, D: Desk<'a>>(
-    alloc: Global,
     desk: &mut D,
     job: usize,
     ticket: &Ticket,
@@ -41,16 +40,16 @@ fn answer_region<'a, D: Desk<'a>>(
     ensures { D.ended desk.new ≡ D.ended desk.old }
 {
     if let Some(rows) = run.rows_again(region) {
-        let copy = Sequence::from_slice(alloc, rows)?;
-        return Ok(run.answer_scan(copy)?);
+        let shared = rows.share()?;
+        return Ok(run.answer_shared(shared)?);
     }
-    let rows = desk.scan(job, ticket, region)?;
+    let found = desk.scan(job, ticket, region)?;
+    let rows = SharedRows::new(found)?;
     Ok(run.answer_rows(rows)?)
 }
 
 // One step of a run, with what it asks for read in the book.
 fn step<'a, D: Desk<'a>>(
-    alloc: Global,
     desk: &mut D,
     job: usize,
     ticket: &Ticket,
@@ -64,14 +63,13 @@ fn step<'a, D: Desk<'a>>(
             let held = desk.get(job, ticket, &cell)?;
             Ok(run.answer_get(held)?)
         }
-        Next::Scan(region) => answer_region(alloc, desk, job, ticket, run, &region),
+        Next::Scan(region) => answer_region(desk, job, ticket, run, &region),
         next => Ok(next),
     }
 }
 
 // Goes on with a run to its end.
 fn finish<'a, D: Desk<'a>>(
-    alloc: Global,
     desk: &mut D,
     job: usize,
     ticket: &Ticket,
@@ -80,7 +78,7 @@ fn finish<'a, D: Desk<'a>>(
     ensures { D.ended desk.new ≡ D.ended desk.old }
 {
     for _turn in 0..u64::MAX {
-        if let Next::Done(end) = step(alloc, desk, job, ticket, run)? {
+        if let Next::Done(end) = step(desk, job, ticket, run)? {
             return Ok(end);
         }
     }
@@ -167,7 +165,7 @@ fn try_once<'a, D: Desk<'a>>(
         desk.withdraw(ticket);
         return Err(Stop::NoMemory);
     };
-    match finish(alloc, desk, number, &ticket, &mut run) {
+    match finish(desk, number, &ticket, &mut run) {
         Ok(End::Ready) => commit(alloc, desk, ticket, run),
         Ok(End::Aborted(cause)) => abort(desk, ticket, run, cause),
         Err(stop) => {

@@ -14,7 +14,7 @@ use crate::book::Book;
 use crate::instances::row::HistoryRow;
 use crate::instances::ticket::Ticket;
 use prog_run::{AnswerFault, Next, Run, RunFault};
-use prog_tree::{Cell, Region, Sequence};
+use prog_tree::{Region, SharedRows};
 use std::alloc::AllocError;
 
 // An answer that fits the question is refused for want of memory alone.
@@ -32,21 +32,19 @@ fn next_of_answer(answer: Result<Next, AnswerFault>) -> Result<Next, AllocError>
 
 impl<'a> Book<'a> {
     // The rows of a region after the first `start` commits. A look that is at once repeated is not
-    // read again.
-    fn rows_for(
-        &self,
-        start: u64,
-        run: &Run<'_>,
-        region: &Region,
-    ) -> Result<Sequence<(Cell, i64)>, AllocError>
+    // read again, and shares its rows.
+    fn rows_for(&self, start: u64, run: &Run<'_>, region: &Region) -> Result<SharedRows, AllocError>
         requires above { self.now.floor ≤ start }
         requires within { start ≤ length self.now.rows }
         requires found { AreFound (state_in self.now start) run.now.looks }
         ensures { IfOk result (λ rows. rows ≡ rows_in region.now (state_in self.now start)) }
     {
         match run.rows_again(region) {
-            Some(rows) => Sequence::from_slice(self.alloc, rows),
-            None => self.rows_in(start, region),
+            Some(rows) => rows.share(),
+            None => {
+                let rows = self.rows_in(start, region)?;
+                SharedRows::new(rows)
+            }
         }
     }
 

@@ -11,7 +11,7 @@ returns-in-Range-clause-last c =
     let last : last_look c.args.looks.now ≡ Some (look.Range range.looked range.own range.rows) =
     sym c.in-Some.ensures.value ∙ ap (λ l. Some l) range.is in
     let none : range.own ≡ [] = c.is_empty.ensures.0 c.if-is_empty.true in
-    same_look c.args.looks.now range.looked c.args.region.now range.own range.rows c.as_slice.result.now last none (c.is_same.ensures.0 c.if-is_same.true) c.as_slice.ensures
+    same_look c.args.looks.now range.looked c.args.region.now range.own range.rows last none (c.is_same.ensures.0 c.if-is_same.true)
 
 pub returns-in-Range-clause-held : goal.returns-in-Range-clause-held
 returns-in-Range-clause-held c =
@@ -19,5 +19,5 @@ returns-in-Range-clause-held c =
     let last : last_look c.args.looks.now ≡ Some (look.Range range.looked range.own range.rows) =
     sym c.in-Some.ensures.value ∙ ap (λ l. Some l) range.is in
     let none : range.own ≡ [] = c.is_empty.ensures.0 c.if-is_empty.true in
-    held_again c.args.looks.now c.args.region.now c.as_slice.result.now
-    (same_look c.args.looks.now range.looked c.args.region.now range.own range.rows c.as_slice.result.now last none (c.is_same.ensures.0 c.if-is_same.true) c.as_slice.ensures)
+    held_again c.args.looks.now c.args.region.now range.rows
+    (same_look c.args.looks.now range.looked c.args.region.now range.own range.rows last none (c.is_same.ensures.0 c.if-is_same.true))

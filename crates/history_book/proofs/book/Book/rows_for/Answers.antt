@@ -5,4 +5,4 @@ use Rattle.history_book.proofs.book.Book.rows_for.Goals as goal
 
 pub returns-in-Some : goal.returns-in-Some
 returns-in-Some c =
-    subst (λ (m : TableState). IfOk c.from_slice.result (λ rows. rows ≡ m)) (c.in-Some.ensures.held (state_in c.args.self.now c.args.start) c.requires.found) c.from_slice.ensures
+    subst (λ (m : TableState). IfOk c.share.result (λ rows. rows ≡ m)) (c.in-Some.ensures.held (state_in c.args.self.now c.args.start) c.requires.found) c.share.ensures

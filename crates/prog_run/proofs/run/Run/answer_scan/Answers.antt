@@ -12,12 +12,18 @@ returns-in-Some-clause-refused c =
 
 pub answer_rows-requires : goal.answer_rows-requires
 answer_rows-requires c =
-    ap (scan_fault (asked_region c.args.self.now.asked)) (sym c.as_slice.ensures) ∙ sym c.in_default.ensures.fault
+    ap (scan_fault (asked_region c.args.self.now.asked)) (c.in_ok-rows.ensures ∙ sym c.as_slice.ensures) ∙ sym c.in_default.ensures.fault
+
+pub returns-in_err-rows-clause-refused : goal.returns-in_err-rows-clause-refused
+returns-in_err-rows-clause-refused c =
+    let refusal = err_from_is_err_and c.from_residual.result c.from_residual.ensures.1 in
+    memory_refuses c.from_residual.result refusal.0 _ refusal.1 refusal.2
+    (ap (scan_fault (asked_region c.args.self.now.asked)) (sym c.as_slice.ensures) ∙ sym c.in_default.ensures.fault)
 
 pub returns-in_err-answer_rows-clause-refused : goal.returns-in_err-answer_rows-clause-refused
 returns-in_err-answer_rows-clause-refused c =
-    let refusal = err_from_is_err_and c.from_residual.result c.from_residual.ensures.1 in
-    memory_refuses c.from_residual.result refusal.0 _ refusal.1 refusal.2
+    let refusal = err_from_is_err_and c.from_residual-in_err-answer_rows.result c.from_residual-in_err-answer_rows.ensures.1 in
+    memory_refuses c.from_residual-in_err-answer_rows.result refusal.0 _ refusal.1 refusal.2
     (ap (scan_fault (asked_region c.args.self.now.asked)) (sym c.as_slice.ensures) ∙ sym c.in_default.ensures.fault)
 
 pub returns-clause-refused : goal.returns-clause-refused
