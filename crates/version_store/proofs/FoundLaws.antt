@@ -21,7 +21,8 @@ use Rattle.prog_tree.proofs.TableStates.{same_cell, cell_is, same_state, IsTable
 use Rattle.version_store.specs.StandsFor.{Chain, no_chain}
 use Rattle.version_store.specs.Reading.{AllRise, RisesFrom, chain_at, value_at}
 use Rattle.prog_tree.specs.Corners.{is_between, AreCorners}
-use Rattle.version_store.specs.Regions.{seen_in, seen_left, IsSeen}
+use Rattle.version_store.specs.Regions.{seen_in, seen_left, seen_between, left_between, IsSeen}
+use Rattle.version_store.proofs.BetweenLaws.{in_by_second}
 use Rattle.version_store.proofs.ScanLaws.{seen_at, or_none}
 
 -- the rows of what is seen of chains, in their order
@@ -134,12 +135,16 @@ rest_left k chain rest h = record {
     go false c x apart found = h.rises c x (ap (λ b. cond b (Some chain) (at_cell rest c)) apart ∙ found)
 
 -- the chains in which nothing is seen do not matter
-found_where : (seen : Seen) (p : Cell → Bool) (es : Cells Chain) → ((c : Cell) (chain : Chain) → p c ≡ false → seen c chain ≡ None) → found_rows seen (filter (λ e. p e.0) es) ≡ found_rows seen es
-found_where seen p [] outside = refl
-found_where seen p (e ∷ es) outside = go (p e.0) refl (found_where seen p es outside)
+found_where :
+    (shown seen : Seen) (p : Cell → Bool) (es : Cells Chain) → ((c : Cell) (chain : Chain) → p c ≡ true → shown c chain ≡ seen c chain) →
+    ((c : Cell) (chain : Chain) → p c ≡ false → seen c chain ≡ None) → found_rows shown (filter (λ e. p e.0) es) ≡ found_rows seen es
+found_where shown seen p [] inside outside = refl
+found_where shown seen p (e ∷ es) inside outside = go (p e.0) refl (found_where shown seen p es inside outside)
   where
-    go : (b : Bool) → p e.0 ≡ b → found_rows seen (filter (λ e. p e.0) es) ≡ found_rows seen es → found_rows seen (cond b (e ∷ filter (λ e. p e.0) es) (filter (λ e. p e.0) es)) ≡ row_held e.0 (seen e.0 e.1) ++ found_rows seen es
-    go true inside rest = ap (λ rows. row_held e.0 (seen e.0 e.1) ++ rows) rest
+    go : (b : Bool) → p e.0 ≡ b → found_rows shown (filter (λ e. p e.0) es) ≡ found_rows seen es → found_rows shown (cond b (e ∷ filter (λ e. p e.0) es) (filter (λ e. p e.0) es)) ≡ row_held e.0 (seen e.0 e.1) ++ found_rows seen es
+    go true within rest =
+        ap (λ o. row_held e.0 o ++ found_rows shown (filter (λ e. p e.0) es)) (inside e.0 e.1 within)
+        ∙ ap (λ rows. row_held e.0 (seen e.0 e.1) ++ rows) rest
     go false apart rest = rest ∙ ap (λ o. row_held e.0 o ++ found_rows seen es) (sym (outside e.0 e.1 apart))
 
 beside : (region : Region) (low high c : Cell) → AreCorners region (Some (low, high)) → is_between low high c ≡ false → is_in region c ≡ false
@@ -178,83 +183,104 @@ no_chain_left region own n c = ap (λ o. if is_cell_among own c then None else o
     go true = refl
     go false = refl
 
+-- between the corners of a region it is seen by the second column
+seen_there :
+    (region : Region) (n : ℕ) (low high c : Cell) (chain : Chain) → AreCorners region (Some (low, high)) → is_between low high c ≡ true →
+    seen_between region n c chain ≡ seen_in region n c chain
+seen_there region n low high c chain corners between =
+    ap (λ b. if b then value_at n chain else None) (sym (in_by_second region low high c corners.0 between))
+
+left_there :
+    (region : Region) (own : List Cell) (n : ℕ) (low high c : Cell) (chain : Chain) → AreCorners region (Some (low, high)) → is_between low high c ≡ true →
+    left_between region own n c chain ≡ seen_left region own n c chain
+left_there region own n low high c chain corners between =
+    ap (λ o. if is_cell_among own c then None else o) (seen_there region n low high c chain corners between)
+
 -- ---- rows that are gathered
 
 -- with those of the chains that are left, the rows are all
-pub record Gains (seen : Seen) (chains left : Cells Chain) (rows : TableState) : Type 0 where
+pub record Gains (seen : Seen) (all : TableState) (left : Cells Chain) (rows : TableState) : Type 0 where
   pub walk : IsLeft left
-  pub joined : rows ++ found_rows seen left ≡ found_rows seen chains
+  pub joined : rows ++ found_rows seen left ≡ all
 
 pub gains_first :
     (region : Region) (n : ℕ) (low high : Cell) (chains between : Cells Chain) → IsStrictlySortedBy cell_cmp (cells_of chains) → AllRise chains →
-    AreCorners region (Some (low, high)) → between ≡ filter (λ e. is_between low high e.0) chains → Gains (seen_in region n) chains between []
+    AreCorners region (Some (low, high)) → between ≡ filter (λ e. is_between low high e.0) chains → Gains (seen_between region n) (found_rows (seen_in region n) chains) between []
 gains_first region n low high chains between sorted rise corners is = record {
   walk = between_left (is_between low high) chains between sorted rise is;
-  joined = ap (found_rows (seen_in region n)) is ∙ found_where (seen_in region n) (is_between low high) chains (λ c chain apart. outside_region region n c chain (beside region low high c corners apart));
+  joined =
+      ap (found_rows (seen_between region n)) is
+      ∙ found_where (seen_between region n) (seen_in region n) (is_between low high) chains
+      (λ c chain inside. seen_there region n low high c chain corners inside)
+      (λ c chain apart. outside_region region n c chain (beside region low high c corners apart));
 }
 
-pub gains_all : (seen : Seen) (chains left : Cells Chain) → IsStrictlySortedBy cell_cmp (cells_of chains) → AllRise chains → left ≡ chains → Gains seen chains left []
-gains_all seen chains left sorted rise is = subst (λ (es : Cells Chain). Gains seen chains es []) (sym is) record { walk = all_left chains sorted rise; joined = refl }
+pub gains_all : (seen : Seen) (chains left : Cells Chain) → IsStrictlySortedBy cell_cmp (cells_of chains) → AllRise chains → left ≡ chains → Gains seen (found_rows seen chains) left []
+gains_all seen chains left sorted rise is = subst (λ (es : Cells Chain). Gains seen (found_rows seen chains) es []) (sym is) record { walk = all_left chains sorted rise; joined = refl }
 
 pub gains_more :
-    (seen : Seen) (chains left rest : Cells Chain) (k : Cell) (chain : Chain) (rows next : TableState) → left ≡ (k, chain) ∷ rest → Gains seen chains left rows →
-    (RisesFrom 0 chain.versions → next ≡ rows ++ row_held k (seen k chain)) → Gains seen chains rest next
-gains_more seen chains left rest k chain rows next is so_far adds = record {
+    (seen : Seen) (all : TableState) (left rest : Cells Chain) (k : Cell) (chain : Chain) (rows next : TableState) → left ≡ (k, chain) ∷ rest → Gains seen all left rows →
+    (RisesFrom 0 chain.versions → next ≡ rows ++ row_held k (seen k chain)) → Gains seen all rest next
+gains_more seen all left rest k chain rows next is so_far adds = record {
   walk = rest_left k chain rest h.walk;
   joined = ap (λ m. m ++ found_rows seen rest) (adds (first_rises k chain rest h.walk)) ∙ append_assoc rows (row_held k (seen k chain)) (found_rows seen rest) ∙ h.joined;
 }
   where
-    h : Gains seen chains ((k, chain) ∷ rest) rows
-    h = subst (λ (es : Cells Chain). Gains seen chains es rows) is so_far
+    h : Gains seen all ((k, chain) ∷ rest) rows
+    h = subst (λ (es : Cells Chain). Gains seen all es rows) is so_far
 
 pub gained_of :
-    (seen : Seen) → ((c : Cell) → seen c no_chain ≡ None) → (chains left : Cells Chain) (rows : TableState) → IsStrictlySortedBy cell_cmp (cells_of chains) → left ≡ [] →
-    Gains seen chains left rows → IsSeen seen chains rows
-gained_of seen unseen chains left rows sorted none h =
+    (shown seen : Seen) → ((c : Cell) → seen c no_chain ≡ None) → (chains left : Cells Chain) (rows : TableState) → IsStrictlySortedBy cell_cmp (cells_of chains) → left ≡ [] →
+    Gains shown (found_rows seen chains) left rows → IsSeen seen chains rows
+gained_of shown seen unseen chains left rows sorted none h =
     subst (λ (m : TableState). IsSeen seen chains m)
-    (sym (sym (append-nil rows) ∙ ap (λ es. rows ++ found_rows seen es) (sym none) ∙ h.joined))
+    (sym (sym (append-nil rows) ∙ ap (λ es. rows ++ found_rows shown es) (sym none) ∙ h.joined))
     (is_seen seen unseen chains sorted)
 
 pub gained :
     (region : Region) (n : ℕ) (chains left : Cells Chain) (rows : TableState) → IsStrictlySortedBy cell_cmp (cells_of chains) → left ≡ [] →
-    Gains (seen_in region n) chains left rows → IsSeen (seen_in region n) chains rows
-gained region n = gained_of (seen_in region n) (no_chain_in region n)
+    Gains (seen_between region n) (found_rows (seen_in region n) chains) left rows → IsSeen (seen_in region n) chains rows
+gained region n = gained_of (seen_between region n) (seen_in region n) (no_chain_in region n)
 
 pub gained_nothing : (region : Region) (n : ℕ) (chains : Cells Chain) → AreCorners region None → IsSeen (seen_in region n) chains []
 gained_nothing region n chains corners = (IsTableState-nil, λ c. sym (outside_region region n c (chain_at chains c) (corners c)))
 
 -- ---- rows that are compared
 
--- the rest is what is found in the chains that are left exactly where the rows are all that is found
-pub record Matches (seen : Seen) (chains left : Cells Chain) (rest rows : TableState) : Type 0 where
+-- the rest is what is found in the chains that are left exactly where the rows are all
+pub record Matches (seen : Seen) (all : TableState) (left : Cells Chain) (rest rows : TableState) : Type 0 where
   pub walk : IsLeft left
-  pub same : (found_rows seen left ≡ rest) ↔ (found_rows seen chains ≡ rows)
+  pub same : (found_rows seen left ≡ rest) ↔ (all ≡ rows)
 
 pub matches_first :
     (region : Region) (own : List Cell) (n : ℕ) (low high : Cell) (chains between : Cells Chain) (rows : TableState) → IsStrictlySortedBy cell_cmp (cells_of chains) → AllRise chains →
-    AreCorners region (Some (low, high)) → between ≡ filter (λ e. is_between low high e.0) chains → Matches (seen_left region own n) chains between rows rows
+    AreCorners region (Some (low, high)) → between ≡ filter (λ e. is_between low high e.0) chains → Matches (left_between region own n) (found_rows (seen_left region own n) chains) between rows rows
 matches_first region own n low high chains between rows sorted rise corners is = record {
   walk = between_left (is_between low high) chains between sorted rise is;
   same = (λ same. sym all ∙ same, λ same. all ∙ same);
 }
   where
-    all : found_rows (seen_left region own n) between ≡ found_rows (seen_left region own n) chains
-    all = ap (found_rows (seen_left region own n)) is ∙ found_where (seen_left region own n) (is_between low high) chains (λ c chain apart. outside_left region own n c chain (beside region low high c corners apart))
+    all : found_rows (left_between region own n) between ≡ found_rows (seen_left region own n) chains
+    all =
+        ap (found_rows (left_between region own n)) is
+        ∙ found_where (left_between region own n) (seen_left region own n) (is_between low high) chains
+        (λ c chain inside. left_there region own n low high c chain corners inside)
+        (λ c chain apart. outside_left region own n c chain (beside region low high c corners apart))
 
 -- a step: what is behind the row of a chain goes on exactly where the rest does
 abbrev pub GoesOn : Cell → Option ℤ → (rest : TableState) → Option TableState → Type 0
 GoesOn k o rest after = (m : TableState) → (after ≡ Some m) ↔ (row_held k o ++ m ≡ rest)
 
 pub matches_more :
-    (seen : Seen) (chains left behind : Cells Chain) (k : Cell) (chain : Chain) (o : Option ℤ) (rest after rows : TableState) → left ≡ (k, chain) ∷ behind →
-    Matches seen chains left rest rows → (RisesFrom 0 chain.versions → o ≡ seen k chain) → GoesOn k o rest (Some after) → Matches seen chains behind after rows
-matches_more seen chains left behind k chain o rest after rows is so_far sees goes = record {
+    (seen : Seen) (all : TableState) (left behind : Cells Chain) (k : Cell) (chain : Chain) (o : Option ℤ) (rest after rows : TableState) → left ≡ (k, chain) ∷ behind →
+    Matches seen all left rest rows → (RisesFrom 0 chain.versions → o ≡ seen k chain) → GoesOn k o rest (Some after) → Matches seen all behind after rows
+matches_more seen all left behind k chain o rest after rows is so_far sees goes = record {
   walk = rest_left k chain behind h.walk;
   same = (λ same. h.same.0 (found ∙ (goes (found_rows seen behind)).0 (ap Some (sym same))), λ same. some_is ((goes (found_rows seen behind)).1 (sym found ∙ h.same.1 same)));
 }
   where
-    h : Matches seen chains ((k, chain) ∷ behind) rest rows
-    h = subst (λ (es : Cells Chain). Matches seen chains es rest rows) is so_far
+    h : Matches seen all ((k, chain) ∷ behind) rest rows
+    h = subst (λ (es : Cells Chain). Matches seen all es rest rows) is so_far
 
     found : row_held k (seen k chain) ++ found_rows seen behind ≡ row_held k o ++ found_rows seen behind
     found = ap (λ x. row_held k x ++ found_rows seen behind) (sym (sees (first_rises k chain behind h.walk)))
@@ -263,13 +289,13 @@ matches_more seen chains left behind k chain o rest after rows is so_far sees go
     some_is e = cc
 
 pub mismatch :
-    (seen : Seen) (chains left behind : Cells Chain) (k : Cell) (chain : Chain) (o : Option ℤ) (rest rows : TableState) → left ≡ (k, chain) ∷ behind →
-    Matches seen chains left rest rows → (RisesFrom 0 chain.versions → o ≡ seen k chain) → GoesOn k o rest None → found_rows seen chains ≡ rows → ⊥
-mismatch seen chains left behind k chain o rest rows is so_far sees goes same =
+    (seen : Seen) (all : TableState) (left behind : Cells Chain) (k : Cell) (chain : Chain) (o : Option ℤ) (rest rows : TableState) → left ≡ (k, chain) ∷ behind →
+    Matches seen all left rest rows → (RisesFrom 0 chain.versions → o ≡ seen k chain) → GoesOn k o rest None → all ≡ rows → ⊥
+mismatch seen all left behind k chain o rest rows is so_far sees goes same =
     let never = (goes (found_rows seen behind)).1 (sym found ∙ h.same.1 same) in absurd (cc)
   where
-    h : Matches seen chains ((k, chain) ∷ behind) rest rows
-    h = subst (λ (es : Cells Chain). Matches seen chains es rest rows) is so_far
+    h : Matches seen all ((k, chain) ∷ behind) rest rows
+    h = subst (λ (es : Cells Chain). Matches seen all es rest rows) is so_far
 
     found : row_held k (seen k chain) ++ found_rows seen behind ≡ row_held k o ++ found_rows seen behind
     found = ap (λ x. row_held k x ++ found_rows seen behind) (sym (sees (first_rises k chain behind h.walk)))
@@ -290,9 +316,9 @@ empty_is [] m b e none = (λ t. none, λ same. e)
 empty_is (row ∷ rows) m b e none = (λ t. let never : length (row ∷ rows) ≡ 0 = eqb-true _ _ (sym e ∙ t) in absurd (omega (arith, never)), λ same. let never = sym none ∙ same in absurd (cc))
 
 pub matched :
-    (seen : Seen) (chains left : Cells Chain) (rest rows m : TableState) (b : Bool) → left ≡ [] → Matches seen chains left rest rows → found_rows seen chains ≡ m →
+    (seen : Seen) (all : TableState) (left : Cells Chain) (rest rows m : TableState) (b : Bool) → left ≡ [] → Matches seen all left rest rows → all ≡ m →
     b ≡ (length rest == 0) → IsTrue b ↔ (m ≡ rows)
-matched seen chains left rest rows m b none h is e =
+matched seen all left rest rows m b none h is e =
     let empty = empty_is rest [] b e refl in
     let at_end : found_rows seen left ≡ [] = ap (found_rows seen) none in
     (λ t. sym is ∙ h.same.0 (at_end ∙ empty.0 t), λ same. empty.1 (sym at_end ∙ h.same.1 (is ∙ same)))

@@ -1,3 +1,4 @@
+pub mod BetweenLaws
 pub mod ChainLaws
 pub mod ChainsLaws
 pub mod ClashLaws

@@ -1,8 +1,8 @@
 //! What is found in the chain of a cell, and the rows that it adds to others.
 ghost use Rattle.std.specs.Prelude.{◌≡◌, ◌↔◌, ◌++◌, Some, OnOk, option_copied};
-ghost use Rattle.prog_tree.specs.Table.{TableState, is_cell_among, row_held};
+ghost use Rattle.prog_tree.specs.Table.{TableState, is_cell_among, lies_between, row_held};
 ghost use Rattle.version_store.specs.Reading.{RisesFrom, value_at};
-ghost use Rattle.version_store.specs.Regions.{seen_in, seen_left, with_found};
+ghost use Rattle.version_store.specs.Regions.{seen_between, left_between, with_found};
 
 use crate::chain::Chain;
 use prog_tree::{Cell, Region, RisingCells, Rows};
@@ -19,13 +19,20 @@ pub fn add_found(rows: &mut Rows, start: u64, cell: &Cell, chain: &Chain) -> Res
     Ok(())
 }
 
-/// What is seen in a region of a cell.
-#[inline]
-pub fn seen_in(region: &Region, start: u64, cell: &Cell, chain: &Chain) -> Option<i64>
-    ensures { RisesFrom 0 chain.now.versions →
-        result ≡ seen_in region.now start cell.now chain.now }
+fn lies_between(low: i64, x: i64, high: i64) -> bool
+    ensures { result ≡ lies_between low x high }
 {
-    if !region.contains(cell) {
+    low <= x && x <= high
+}
+
+/// What is seen in a region of a cell between its corners. There the second column alone tells
+/// whether the cell is in the region.
+#[inline]
+pub fn seen_between(region: &Region, start: u64, cell: &Cell, chain: &Chain) -> Option<i64>
+    ensures { RisesFrom 0 chain.now.versions →
+        result ≡ seen_between region.now start cell.now chain.now }
+{
+    if !lies_between(region.second_low, cell.second, region.second_high) {
         return None;
     }
     chain.value_at(start)
@@ -38,8 +45,8 @@ fn is_among(own: &RisingCells, cell: &Cell) -> bool
     !own.is_empty() && own.contains(cell)
 }
 
-/// What is seen in a region of a cell, unless it is one of some `own` cells.
-pub fn seen_left(
+/// What is seen in a region of a cell between its corners, unless it is one of some `own` cells.
+pub fn left_between(
     region: &Region,
     own: &RisingCells,
     start: u64,
@@ -47,12 +54,12 @@ pub fn seen_left(
     chain: &Chain,
 ) -> Option<i64>
     ensures { RisesFrom 0 chain.now.versions →
-        result ≡ seen_left region.now own.now start cell.now chain.now }
+        result ≡ left_between region.now own.now start cell.now chain.now }
 {
     if is_among(own, cell) {
         return None;
     }
-    seen_in(region, start, cell, chain)
+    seen_between(region, start, cell, chain)
 }
 
 /// Adds the row of a cell behind the others, where something is found of it.

@@ -5,7 +5,7 @@ ghost use Rattle.version_store.specs.Reading.{AllRise};
 ghost use Rattle.version_store.specs.Regions.{seen_anywhere, seen_in, seen_left, IsSeen};
 
 use crate::chains::Chains;
-use crate::found::{add_found, push_row, rows_behind, seen_in, seen_left};
+use crate::found::{add_found, left_between, push_row, rows_behind, seen_between};
 use prog_tree::{Cell, Region, RisingCells, Rows, Sequence};
 use std::alloc::AllocError;
 
@@ -38,7 +38,7 @@ impl Chains {
             return Ok(Sequence::from_vec(rows));
         };
         for (cell, chain) in self.chains.range(low..=high) {
-            let found = seen_in(region, start, cell, chain);
+            let found = seen_between(region, start, cell, chain);
             push_row(&mut rows, cell, found)?;
         }
         rows.shrink_to_fit();
@@ -50,7 +50,7 @@ impl Chains {
         ensures { IfOk result (λ rows. AllRise self.now →
             IsSeen (seen_anywhere start) self.now rows) }
     {
-        let mut rows = Vec::new(self.alloc);
+        let mut rows = Vec::with_capacity(self.alloc, self.chains.len())?;
         for (cell, chain) in self.chains.iter() {
             push_row(&mut rows, cell, chain.value_at(start))?;
         }
@@ -75,7 +75,7 @@ impl Chains {
         };
         let mut rest = rows;
         for (cell, chain) in self.chains.range(low..=high) {
-            let found = seen_left(region, own, start, cell, chain);
+            let found = left_between(region, own, start, cell, chain);
             let Some(after) = rows_behind(rest, cell, found) else {
                 return false;
             };

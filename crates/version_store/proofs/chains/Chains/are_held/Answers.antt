@@ -4,7 +4,7 @@ use Rattle.std.specs.List.Sorted.{IsStrictlySortedBy}
 use Rattle.prog_tree.specs.declared.cell.Cell.{Cell}
 use Rattle.prog_tree.specs.Table.{cell_cmp, Cells, cells_of}
 use Rattle.prog_tree.specs.Corners.{is_between}
-use Rattle.version_store.specs.Regions.{seen_left}
+use Rattle.version_store.specs.Regions.{seen_left, left_between}
 use Rattle.version_store.specs.StandsFor.{Chain}
 use Rattle.version_store.proofs.FoundLaws.{matches_first, matches_more, mismatch, matched, unmatched, empty_is, left_is, left_nothing, found_rows}
 use Rattle.version_store.proofs.chains.Chains.are_held.Goals as goal
@@ -26,20 +26,20 @@ loop-cell-init c =
 
 pub loop-cell-preserved : goal.loop-cell-preserved
 loop-cell-preserved c = λ rise.
-    matches_more (seen_left c.args.region.now c.args.own.now c.args.start) c.args.self.now c.loop-cell.cell-iterator c.next.new.self c.in-Some-2.cell.now c.in-Some-2.chain.now
-    c.seen_left-found.result c.loop-cell.rest.now c.in-Some-rows_behind.after.now c.args.rows.now
-    c.in-Some-2.ensures.steps (c.loop-cell.invariant rise) c.seen_left-found.ensures c.in-Some-rows_behind.ensures
+    matches_more (left_between c.args.region.now c.args.own.now c.args.start) (found_rows (seen_left c.args.region.now c.args.own.now c.args.start) c.args.self.now) c.loop-cell.cell-iterator c.next.new.self c.in-Some-2.cell.now c.in-Some-2.chain.now
+    c.left_between-found.result c.loop-cell.rest.now c.in-Some-rows_behind.after.now c.args.rows.now
+    c.in-Some-2.ensures.steps (c.loop-cell.invariant rise) c.left_between-found.ensures c.in-Some-rows_behind.ensures
 
 pub returns-in_default-rows_behind : goal.returns-in_default-rows_behind
 returns-in_default-rows_behind c = λ rise m h.
-    let seen = seen_left c.args.region.now c.args.own.now c.args.start in
+    let all = found_rows (seen_left c.args.region.now c.args.own.now c.args.start) c.args.self.now in
     let sorted = subst (λ (es : Cells Chain). IsStrictlySortedBy cell_cmp (cells_of es)) c.self.view_is c.range-cell-items.ensures.ordered in
-    unmatched c.args.rows.now (found_rows seen c.args.self.now) m (left_is c.args.region.now c.args.own.now c.args.start c.args.self.now sorted m h)
-    (mismatch seen c.args.self.now c.loop-cell.cell-iterator c.next.new.self c.in-Some-2.cell.now c.in-Some-2.chain.now
-    c.seen_left-found.result c.loop-cell.rest.now c.args.rows.now c.in-Some-2.ensures.steps (c.loop-cell.invariant rise) c.seen_left-found.ensures c.in_default-rows_behind.ensures)
+    unmatched c.args.rows.now all m (left_is c.args.region.now c.args.own.now c.args.start c.args.self.now sorted m h)
+    (mismatch (left_between c.args.region.now c.args.own.now c.args.start) all c.loop-cell.cell-iterator c.next.new.self c.in-Some-2.cell.now c.in-Some-2.chain.now
+    c.left_between-found.result c.loop-cell.rest.now c.args.rows.now c.in-Some-2.ensures.steps (c.loop-cell.invariant rise) c.left_between-found.ensures c.in_default-rows_behind.ensures)
 
 pub returns : goal.returns
 returns c = λ rise m h.
     let sorted = subst (λ (es : Cells Chain). IsStrictlySortedBy cell_cmp (cells_of es)) c.self.view_is c.range-cell-items.ensures.ordered in
-    matched (seen_left c.args.region.now c.args.own.now c.args.start) c.args.self.now c.loop-cell.cell-iterator c.loop-cell.rest.now c.args.rows.now m c.is_empty-2.result
+    matched (left_between c.args.region.now c.args.own.now c.args.start) (found_rows (seen_left c.args.region.now c.args.own.now c.args.start) c.args.self.now) c.loop-cell.cell-iterator c.loop-cell.rest.now c.args.rows.now m c.is_empty-2.result
     c.in-None.ensures.steps.0 (c.loop-cell.invariant rise) (left_is c.args.region.now c.args.own.now c.args.start c.args.self.now sorted m h) c.is_empty-2.ensures

@@ -4,9 +4,9 @@ use Rattle.std.specs.List.Sorted.{IsStrictlySortedBy}
 use Rattle.prog_tree.specs.declared.cell.Cell.{Cell}
 use Rattle.prog_tree.specs.Table.{cell_cmp, Cells, cells_of, TableState, row_held}
 use Rattle.prog_tree.specs.Corners.{is_between}
-use Rattle.version_store.specs.Regions.{seen_in, IsSeen}
+use Rattle.version_store.specs.Regions.{seen_in, seen_between, IsSeen}
 use Rattle.version_store.specs.StandsFor.{Chain}
-use Rattle.version_store.proofs.FoundLaws.{gains_first, gains_more, gained, gained_nothing}
+use Rattle.version_store.proofs.FoundLaws.{gains_first, gains_more, gained, gained_nothing, found_rows}
 use Rattle.version_store.proofs.chains.Chains.scan.Goals as goal
 
 pub returns-in_default : goal.returns-in_default
@@ -26,9 +26,9 @@ loop-cell-init c =
 
 pub loop-cell-preserved : goal.loop-cell-preserved
 loop-cell-preserved c = λ rise.
-    gains_more (seen_in c.args.region.now c.args.start) c.args.self.now c.loop-cell.cell-iterator c.next.new.self c.in-Some-2.cell.now c.in-Some-2.chain.now c.loop-cell.rows.items c.push_row.new.rows.items
+    gains_more (seen_between c.args.region.now c.args.start) (found_rows (seen_in c.args.region.now c.args.start) c.args.self.now) c.loop-cell.cell-iterator c.next.new.self c.in-Some-2.cell.now c.in-Some-2.chain.now c.loop-cell.rows.items c.push_row.new.rows.items
     c.in-Some-2.ensures.steps (c.loop-cell.invariant rise)
-    (λ rises. c.in_ok-push_row.ensures ∙ ap (λ o. c.loop-cell.rows.items ++ row_held c.in-Some-2.cell.now o) (c.seen_in-found.ensures rises))
+    (λ rises. c.in_ok-push_row.ensures ∙ ap (λ o. c.loop-cell.rows.items ++ row_held c.in-Some-2.cell.now o) (c.seen_between-found.ensures rises))
 
 pub returns : goal.returns
 returns c = λ rise.
