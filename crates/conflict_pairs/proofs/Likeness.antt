@@ -1,7 +1,7 @@
 -- What is said of one question is said of those that are alike.
-use Rattle.std.proofs.Common.{◌≡◌, ℕ, ◌<◌, ◌≤◌, ◌+◌, ◌⊎◌, inl, inr, List, [], ◌∷◌, ◌++◌, length, get_or, refl, sym, subst, ap, ◌∙◌, arith}
+use Rattle.std.proofs.Common.{◌≡◌, ℕ, true, ◌<◌, ◌≤◌, ◌+◌, ◌⊎◌, inl, inr, List, [], ◌∷◌, ◌++◌, length, get_or, refl, sym, subst, ap, ◌∙◌, arith}
 use Rattle.std.specs.Prelude.{All, Some, slice_get}
-use Rattle.std.proofs.lemmas.Bool.{cases_lt}
+use Rattle.std.proofs.lemmas.Bool.{cases_lt, false≢true}
 use Rattle.std.proofs.lemmas.List.{get_or_push, get_or_append_left}
 use Rattle.std.proofs.lemmas.Option.{get_or_from_slice_get, slice_get-get_or, slice_get_within, same_Some}
 use Rattle.order_facts.specs.declared.steps.Node.{Node}
@@ -18,10 +18,11 @@ use Rattle.prog_paths.specs.Facts.{question_facts}
 use Rattle.prog_paths.specs.Shown.{ShowEqual, key_pairs, CoversBy}
 use Rattle.conflict_pairs.specs.declared.verdicts.Verdict.{Verdict}
 use Rattle.conflict_pairs.specs.declared.verdicts.Verdict.TheVariants.{Apart, Covered, Exposed}
-use Rattle.conflict_pairs.specs.Verdicts.{IsRight}
-use Rattle.conflict_pairs.specs.Search.{CoversAt, IsJudged}
+use Rattle.conflict_pairs.specs.Verdicts.{is_exposed, IsRight}
+use Rattle.conflict_pairs.specs.Search.{CoversAt, IsUncovered, IsJudged}
 use Rattle.conflict_pairs.specs.Alike.{CoverAlike, CoversToo, HaveSameCovers, accesses_in, accesses_at, AreCoverClasses, IsAsked, IsLikeAt, IsLike, IsJudgedAt}
 use Rattle.conflict_pairs.specs.Classes.{AreOneClass}
+use Rattle.conflict_pairs.specs.Sharing.{AreAlikeSides}
 use Rattle.conflict_pairs.proofs.Meaning.{IsRight-from_lists}
 use Rattle.conflict_pairs.proofs.Moving.{single-first, single-second, IsQuestion-asked, IsRight-asked}
 
@@ -210,6 +211,31 @@ judged-like paths q r v like h mine theirs at_mine at_theirs =
     (first.covers.1, first.covers.0) (second.covers.1, second.covers.0) v
     (judged-alike (accesses_at paths r.x) (accesses_at paths r.y) first.other second.other first.mine second.mine v (alike-back first.mine first.other first.alike) (alike-back second.mine second.other second.alike)
     (h first.other second.other first.at_other second.at_other))))
+
+-- where nothing covers, the facts say the same of accesses that are alike
+uncovered-alike : (a b c d : Access) (v : Verdict) → AreAlike a c → AreAlike b d → IsUncovered (question_facts c d) v → IsUncovered (question_facts a b) v
+uncovered-alike a b c d v e f h =
+    subst (λ (z : Access). IsUncovered (question_facts z b) v) (sym (same_but_place a c e)) (subst (λ (z : Access). IsUncovered (question_facts (unplaced c) z) v) (sym (same_but_place b d f)) h)
+
+-- one exposed verdict says what another one does of accesses that are alike
+exposed-shared : (xs ys zs ws : List Access) (a b c d : Access) (found kept : Verdict) → is_exposed found ≡ true → is_exposed kept ≡ true → AreAlike a c → AreAlike b d → IsJudged xs ys a b found → IsJudged zs ws c d kept → IsJudged xs ys a b kept
+exposed-shared xs ys zs ws a b c d (Apart chain) kept t u e f h k = absurd (false≢true t)
+exposed-shared xs ys zs ws a b c d (Covered m n chains) kept t u e f h k = absurd (false≢true t)
+exposed-shared xs ys zs ws a b c d (Exposed sample) (Apart chain) t u e f h k = absurd (false≢true u)
+exposed-shared xs ys zs ws a b c d (Exposed sample) (Covered m n chains) t u e f h k = absurd (false≢true u)
+exposed-shared xs ys zs ws a b c d (Exposed sample) (Exposed other) t u e f h k = (uncovered-alike a b c d (Exposed other) e f k.0, h.1)
+
+-- the same of two questions whose accesses are alike, side by side
+pub exposed-alike : (paths : List Path) (q r : Question) (found kept : Verdict) → is_exposed found ≡ true → is_exposed kept ≡ true → AreAlikeSides paths q r → IsJudgedAt paths q found → IsJudgedAt paths r kept → IsJudgedAt paths q kept
+exposed-alike paths q r found kept t u alike h k mine theirs at_mine at_theirs =
+    let first = alike.0 in
+    let second = alike.1 in
+    let xs = accesses_at paths q.x in
+    let ys = accesses_at paths q.y in
+    subst (λ (z : Access). IsJudged xs ys z theirs kept) (access_unique paths q.x q.a first.one mine first.at_one at_mine)
+    (subst (λ (z : Access). IsJudged xs ys first.one z kept) (access_unique paths q.y q.b second.one theirs second.at_one at_theirs)
+    (exposed-shared xs ys (accesses_at paths r.x) (accesses_at paths r.y) first.one second.one first.other second.other found kept t u first.alike second.alike
+    (h first.one second.one first.at_one second.at_one) (k first.other second.other first.at_other second.at_other)))
 
 -- what is said of a question's accesses is right of it
 pub right-judged : (paths : List Path) (q : Question) → All ChangesSingleCells paths → IsAsked paths q → (v : Verdict) → IsJudgedAt paths q v → IsRight paths (numbers_of q) v

@@ -1,22 +1,38 @@
--- Verdicts that are equal are kept once: which of them is on the question of each pair of accesses.
-use Rattle.std.specs.Prelude.{◌≡◌, ℕ, ◌+◌, List, [], ◌∷◌, ◌++◌, length, map}
-use Rattle.std.specs.List.{flat_map}
+-- Verdicts that serve several pairs are kept once: which of them is on the question of each pair of accesses.
+use Rattle.std.specs.Prelude.{ℕ, ◌+◌, List, [], ◌∷◌, ◌++◌, length, map}
+use Rattle.std.specs.List.{AllZip, flat_map}
+use Rattle.prog_check.specs.declared.path.Access.{Access}
 use Rattle.prog_check.specs.declared.path.Path.{Path}
+use Rattle.prog_paths.specs.declared.accesses.questions.Question.{Question}
+use Rattle.prog_paths.specs.Places.{AreAlike}
+use Rattle.prog_paths.specs.StaticGraph.{IsAccessOf}
 use Rattle.prog_paths.specs.declared.accesses.places.Placed.{Placed}
 use Rattle.conflict_pairs.specs.declared.pairing.PlacePair.{PlacePair}
 use Rattle.conflict_pairs.specs.declared.interning.Interned.{Interned}
 use Rattle.conflict_pairs.specs.declared.verdicts.Verdict.{Verdict}
 use Rattle.conflict_pairs.specs.Alike.{IsJudgedAt, IsOnAsked}
-use Rattle.conflict_pairs.specs.Interning.{AreInterned}
+use Rattle.conflict_pairs.specs.Interning.{IsServed, AreInterned}
 use Rattle.conflict_pairs.specs.Pairing.{question_at}
 
--- the kept verdict is the one that was found
-abbrev pub IsSame : Verdict → Verdict → Type 0
-IsSame found kept = kept ≡ found
+-- two accesses of the paths are alike
+pub record AreAlikeAt (paths : List Path) (x a y b : ℕ) : Type 0 where
+  pub one : Access
+  pub other : Access
+  pub at_one : IsAccessOf paths x a one
+  pub at_other : IsAccessOf paths y b other
+  pub alike : AreAlike one other
+
+-- the accesses of two questions are alike, side by side
+abbrev pub AreAlikeSides : List Path → Question → Question → Type 0
+AreAlikeSides paths q r = AreAlikeAt paths q.x q.a r.x r.a × AreAlikeAt paths q.y q.b r.y r.b
 
 -- a verdict says what the facts say of the question of a pair
 abbrev pub IsOnPair : List Path → List Placed → PlacePair → Verdict → Type 0
 IsOnPair paths places pair verdict = IsJudgedAt paths (question_at places pair) verdict
+
+-- for each of these pairs the verdict of its number is on its question
+abbrev pub AreServedSoFar : List Path → List Placed → List Verdict → List PlacePair → List ℕ → Type 0
+AreServedSoFar paths places verdicts = AllZip (IsServed (IsOnPair paths places) verdicts)
 
 -- these verdicts are each on some question of the paths, and for each pair the one of its number is on its question
 abbrev pub ArePairsJudged : List Path → List Placed → List PlacePair → List Verdict → List ℕ → Type 0

@@ -54,12 +54,17 @@ const MANY_SLOTS: usize = 131_072;
 // The golden section of all numbers, which sets near ones far apart.
 const SPREAD: usize = 0x9E37_79B9_7F4A_7C15;
 
+// So many hashes in a row have slots side by side: keys that stand in a row often have near hashes,
+// and so ask few lines of the cache.
+const BLOCK: usize = 64;
+
 /// The slot of a hash among so many. Any of them may come out where their number is a power of 2.
 fn slot_of(slots: usize, hash: usize) -> usize
     requires { 0 < slots }
     ensures { result < slots }
 {
-    (hash.wrapping_mul(SPREAD) >> 32) & (slots - 1)
+    let block = (hash / BLOCK).wrapping_mul(SPREAD) >> 32;
+    block.wrapping_mul(BLOCK).wrapping_add(hash % BLOCK) & (slots - 1)
 }
 
 /// The number for the key of this place.
@@ -109,6 +114,11 @@ impl Slots {
         let slot = slot_of(self.numbers.len(), hash);
         self.numbers[slot] = number;
     }
+}
+
+/// The place of a key among others as slots remember it. One that 32 bits can't say is the first.
+pub fn place_number(place: usize) -> u32 {
+    if place < MAX_VALUES { place as u32 } else { 0 }
 }
 
 /// Adds a value, and gives its number. One more value than 32 bits can number is answered as want

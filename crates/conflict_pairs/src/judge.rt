@@ -1,23 +1,26 @@
 //! The verdict on a question.
-ghost use Rattle.std.specs.Prelude.{◌≡◌, ◌↔◌, All, IfOk, IfSome, IfNone, IsOk, IsTrue};
+ghost use Rattle.std.specs.Prelude.{◌≡◌, ◌↔◌, ℕ, Some, slice_get, All, IfOk, OnOk, IfSome, IfNone};
+ghost use Rattle.std.specs.Prelude.{IsOk, IsTrue};
 ghost use Rattle.order_facts.specs.Chain.{IsConsistent};
 ghost use Rattle.prog_paths.specs.Facts.{question_facts};
 ghost use Rattle.prog_check.specs.declared.path.Access.{Access};
 ghost use Rattle.prog_paths.specs.Questions.{IsQuestion, ChangesSingleCells, two, between};
 ghost use Rattle.conflict_pairs.specs.Verdicts.{HasFall, NumbersFall, IsShortest, IsRight};
 ghost use Rattle.conflict_pairs.specs.Verdicts.{TellsExposed};
-ghost use Rattle.conflict_pairs.specs.Alike.{IsAsked, IsJudgedAt};
-ghost use Rattle.conflict_pairs.specs.Pairing.{IsAskedBetween, question_at};
-ghost use Rattle.conflict_pairs.specs.Sharing.{ArePairsJudged};
+ghost use Rattle.conflict_pairs.specs.declared.verdicts.Verdict.{Verdict};
+ghost use Rattle.conflict_pairs.specs.Alike.{IsAsked, IsJudgedAt, IsOnAsked};
+ghost use Rattle.conflict_pairs.specs.Interning.{IsServed};
+ghost use Rattle.conflict_pairs.specs.Pairing.{IsAskedBetween};
+ghost use Rattle.conflict_pairs.specs.Sharing.{AreServedSoFar, ArePairsJudged, IsOnPair};
 ghost use Rattle.conflict_pairs.specs.Search.{CoversAt, ShowEqualAt, IsCoverFound, IsNoCover};
 ghost use Rattle.conflict_pairs.specs.Search.{IsLeftOpen, IsUncovered, IsJudged};
 
 use crate::apart::{contradiction, number_fall};
 use crate::chain::Chain;
 use crate::cover::{cover_chains, least_cover};
-use crate::interning::{Interned, Slots};
+use crate::interning::{Interned, Slots, place_number, push_numbered};
 use crate::pairing::{PlacePair, question_of};
-use crate::sharing::number_of_verdict;
+use crate::sharing::{hash_on, number_before};
 use crate::verdicts::Verdict;
 use order_facts::Closed;
 use prog_check::{Access, Kind, Path};
@@ -204,23 +207,48 @@ fn verdict_of(alloc: Global, paths: &[Path], question: &Question) -> Result<Verd
     verdict_by_facts(alloc, xs, ys, &xs[question.a], &ys[question.b])
 }
 
-/// What the facts say of the question of a pair of accesses.
-fn pair_verdict(
+// So many pairs have one verdict at least, mostly.
+const PAIRS_OF_A_VERDICT: usize = 8;
+
+/// The number of a verdict on the question of a pair: that of an earlier pair, where its place is
+/// remembered and its verdict is one on this pair too, or the number of a new one.
+fn number_of_pair(
     alloc: Global,
     paths: &[Path],
     places: &[Placed],
+    before: &[PlacePair],
+    numbers: &[u32],
     pair: PlacePair,
-) -> Result<Verdict, AllocError>
-    requires { IsAskedBetween paths.now places.now pair }
-    ensures { IfOk result (λ verdict. IsJudgedAt paths.now (question_at places.now pair) verdict) }
+    slots: &mut Slots,
+    values: &mut Vec<Verdict>,
+) -> Result<u32, AllocError>
+    requires before { All (IsAskedBetween paths.now places.now) before.now }
+    requires judged { AreServedSoFar paths.now places.now values.old.items before.now numbers.now }
+    requires pair { IsAskedBetween paths.now places.now pair }
+    requires sound { All (IsOnAsked paths.now) values.old.items }
+    ensures sound { OnOk result (All (IsOnAsked paths.now) values.new.items) }
+    ensures served { IfOk result
+        (λ n. IsServed (IsOnPair paths.now places.now) values.new.items pair n) }
+    ensures keeps { OnOk result ((k : ℕ) (v : Verdict)
+        → slice_get values.old.items k ≡ Some v → slice_get values.new.items k ≡ Some v) }
 {
     let question = question_of(places, pair);
-    verdict_of(alloc, paths, &question)
+    let found = verdict_of(alloc, paths, &question)?;
+    let hash = hash_on(paths, &question, &found);
+    let place = slots.get(hash) as usize;
+    if let Some(known) = number_before(
+        paths, places, &question, &found, before, numbers, values, place,
+    ) {
+        return Ok(known);
+    }
+    slots.set(hash, place_number(before.len()));
+    let number = push_numbered(values, found)?;
+    Ok(number)
 }
 
 /// The verdicts on the questions of some pairs of accesses, and for each pair the number of its
-/// own. There are few different ones, so a verdict is kept only where the slots remember none that
-/// is the same.
+/// own. There are few different ones, so a verdict is kept only where the slots remember no pair
+/// whose verdict serves.
 pub fn verdicts_of(
     alloc: Global,
     paths: &[Path],
@@ -231,12 +259,21 @@ pub fn verdicts_of(
     ensures { IfOk result (λ judged. ArePairsJudged paths.now places.now pairs.now
         judged.values.items judged.numbers.items) }
 {
-    let mut slots = Slots::for_keys(alloc, pairs.len())?;
+    let mut slots = Slots::for_keys(alloc, pairs.len() / PAIRS_OF_A_VERDICT)?;
     let mut values = Vec::new(alloc);
     let mut numbers = Vec::with_capacity(alloc, pairs.len())?;
-    for pair in pairs {
-        let verdict = pair_verdict(alloc, paths, places, *pair)?;
-        let number = number_of_verdict(verdict, &mut slots, &mut values)?;
+    for (k, pair) in pairs.iter().enumerate() {
+        let before = &pairs[..k];
+        let number = number_of_pair(
+            alloc,
+            paths,
+            places,
+            before,
+            &numbers,
+            *pair,
+            &mut slots,
+            &mut values,
+        )?;
         numbers.push_reserved(number);
     }
     Ok(Interned { values, numbers })

@@ -83,6 +83,15 @@ fn push_numbers(numbers: &mut Vec<u32>, before: usize, of_part: &[u32]) -> Resul
     Ok(())
 }
 
+/// How many verdicts all parts have, for the room that these take.
+fn verdict_count(parts: &[Interned<Verdict>]) -> usize {
+    let mut count: usize = 0;
+    for part in parts {
+        count = count.saturating_add(part.values.len());
+    }
+    count
+}
+
 /// The verdicts of all parts, one part after the other, and for each of so many pairs the number of
 /// its own.
 fn all_verdicts(
@@ -93,7 +102,7 @@ fn all_verdicts(
     ensures verdicts { IfOk result (λ all. all.values.items ≡ verdicts_in parts.items) }
     ensures numbers { IfOk result (λ all. all.numbers.items ≡ numbers_in 0 parts.items) }
 {
-    let mut values = Vec::new(alloc);
+    let mut values = Vec::with_capacity(alloc, verdict_count(&parts))?;
     let mut numbers = Vec::with_capacity(alloc, count)?;
     for mut part in parts {
         push_numbers(&mut numbers, values.len(), &part.numbers)?;

@@ -7,8 +7,8 @@ use Rattle.conflict_pairs.proofs.parallel.all_verdicts.Goals as goal
 
 pub loop-part-init : goal.loop-part-init
 loop-part-init c = record {
-  verdicts = rw c.new-values.ensures.items (ap verdicts_in c.into_iter-part-iterator.ensures.into_iter_gives.0);
-  numbers = rw (c.in_ok-numbers.ensures.items, c.new-values.ensures.items) (ap (numbers_in 0) c.into_iter-part-iterator.ensures.into_iter_gives.0);
+  verdicts = rw c.in_ok-values.ensures.items (ap verdicts_in c.into_iter-part-iterator.ensures.into_iter_gives.0);
+  numbers = rw (c.in_ok-numbers.ensures.items, c.in_ok-values.ensures.items) (ap (numbers_in 0) c.into_iter-part-iterator.ensures.into_iter_gives.0);
 }
 
 pub loop-part-preserved : goal.loop-part-preserved
@@ -18,7 +18,7 @@ loop-part-preserved c =
     let new = c.append.new.self.items in
     let before = c.len.result in
     let counted : before ≡ length old = omega (arith, c.len.ensures) in
-    let added = rw (counted, c.deref.ensures.value) at c.in_ok-push_numbers.ensures in
+    let added = rw (counted, c.deref-in-loop-part.ensures.value) at c.in_ok-push_numbers.ensures in
     let longer : length new ≡ length old + length part.values.items = ap length c.in_ok-append.ensures.items ∙ length-append old part.values.items in
     record {
       verdicts = joined-more old new _ _ _ part c.in-Some.ensures.steps.0 c.in_ok-append.ensures.items c.loop-part.invariant.verdicts;
