@@ -1,4 +1,5 @@
 pub mod ActiveLaws
+pub mod AdvanceLaws
 pub mod AuditLaws
 pub mod BeginLaws
 pub mod BookLaws

@@ -34,7 +34,7 @@ use crate::orders::serial::serial_order;
 use crate::orders::trace::{Trace, are_commits};
 use prog_check::ProgramSet;
 use prog_run::Run;
-use prog_tree::{Cause, Cell, End, Program, Region, Rows, Sequence};
+use prog_tree::{Cause, Cell, End, Program, Region, RowPieces, Rows, Sequence};
 use std::alloc::{AllocError, Global};
 use std::marker::Model;
 use version_store::Store;
@@ -351,6 +351,16 @@ impl<'a> Book<'a> {
             return Err(ScanFault::NoSuchTicket);
         };
         Ok(self.rows_in(active.start, region)?)
+    }
+
+    /// Reads as `scan` does, in pieces, which others may share.
+    pub fn scan_pieces(&self, ticket: &Ticket, region: &Region) -> Result<RowPieces, ScanFault>
+        ensures { IsRegionRead (rows_for self.now ticket.now region.now) result }
+    {
+        let Some(active) = self.active_instance(ticket) else {
+            return Err(ScanFault::NoSuchTicket);
+        };
+        Ok(self.pieces_in(active.start, region)?)
     }
 
     /// Commits the instance of a ticket by its run, which is ready. The first refusal that applies

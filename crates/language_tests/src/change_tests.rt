@@ -2,7 +2,9 @@
 
 use crate::played::{CELL_1_0, CELL_2_0};
 use crate::told::is_told;
-use prog_tree::{Cell, Changes, Env, Progress, Region, RisingCells, Rows, Sequence, SharedRows};
+use prog_tree::{
+    Cell, Changes, Env, Piece, Progress, Region, RisingCells, RowPieces, Rows, Sequence,
+};
 use std::alloc::{AllocError, Global};
 use std::process::Abort;
 
@@ -235,16 +237,50 @@ fn a_sequence_is_its_items(rt: HostRuntime) -> Result<(), AllocError> {
     Ok(())
 }
 
-/// The rows of two cells that a look found.
-const TWO_ROWS: [(Cell, i64); 2] = [(CELL_1_0, 9), (CELL_2_0, 4)];
+// Rows `t[first]` with their values, in one piece.
+fn piece(alloc: Global, rows: &[(i64, i64)]) -> Result<Piece, AllocError> {
+    let mut list = Vec::new(alloc);
+    for (first, value) in rows {
+        let cell = Cell {
+            table: 0,
+            first: *first,
+            second: 0,
+        };
+        list.push((cell, *value))?;
+    }
+    Piece::new(alloc, list)
+}
+
+// The value of each row, in order.
+fn values(alloc: Global, rows: &RowPieces) -> Result<Vec<i64>, AllocError> {
+    let mut values = Vec::new(alloc);
+    let mut left = rows.walk();
+    for _row in 0..rows.len() {
+        let Some((row, behind)) = left.split_first() else {
+            break;
+        };
+        values.push(row.1)?;
+        left = behind;
+    }
+    Ok(values)
+}
 
 #[test]
-fn shared_rows_outlive_the_look_that_found_them(rt: HostRuntime) -> Result<(), AllocError> {
-    let found = SharedRows::new(Sequence::from_slice(rt.alloc(), &TWO_ROWS)?)?;
-    assert!(rt; found.as_slice() == TWO_ROWS.as_slice());
+fn rows_in_pieces_outlive_the_look_that_found_them(rt: HostRuntime) -> Result<(), AllocError> {
+    let mut pieces = Vec::new(rt.alloc());
+    let first = piece(rt.alloc(), &[(1, 9), (2, 4)])?;
+    pieces.push(first.share()?)?;
+    pieces.push(piece(rt.alloc(), &[])?)?;
+    pieces.push(piece(rt.alloc(), &[(5, -3)])?)?;
+    let found = RowPieces::from_pieces(rt.alloc(), pieces)?;
     let again = found.share()?;
     drop(found);
-    assert!(rt; again.as_slice() == TWO_ROWS.as_slice());
+    assert!(rt; again.len() == 3 && again.total() == 10 && !again.is_empty());
+    assert!(rt; values(rt.alloc(), &again)?.as_slice() == [9, 4, -3].as_slice());
+    assert!(rt; again.pieces().len() == 3 && again.pieces()[0].rows().len() == 2);
+    assert!(rt; first.len() == 2 && first.total() == 13);
+    let none = RowPieces::from_list(Sequence::new(rt.alloc()))?;
+    assert!(rt; none.is_empty() && none.walk().is_empty());
     Ok(())
 }
 

@@ -4,7 +4,7 @@ use crate::told::is_told;
 use example_sets::set_of;
 use prog_check::ProgramSet;
 use prog_run::{AnswerFault, Look, Next, Run};
-use prog_tree::{Cell, Region, Sequence, SharedRows};
+use prog_tree::{Cell, Region, RowPieces, Sequence};
 use std::alloc::{AllocError, Global};
 use std::process::Abort;
 use std::test::Fail;
@@ -68,7 +68,7 @@ fn shown_look(alloc: Global, look: &Look) -> Result<String, AllocError> {
     match look {
         Look::One(cell, held) => format!(in alloc; "{cell:?} {held:?}"),
         Look::Range { own, rows, .. } => {
-            let (own, others) = (own.as_slice(), rows.as_slice().len());
+            let (own, others) = (own.as_slice(), rows.len());
             format!(in alloc; "{own:?} and {others} others")
         }
     }
@@ -93,11 +93,28 @@ fn shown_state(alloc: Global, run: &Run<'_>) -> Result<String, AllocError> {
     format!(in alloc; "{done} {looks} {:?} {end:?}", run.replies())
 }
 
+// Rows, one after another, where there are some to tell.
+fn shown_rows(alloc: Global, found: Option<&RowPieces>) -> Result<String, AllocError> {
+    let Some(rows) = found else {
+        return format!(in alloc; "None");
+    };
+    let mut listed = Vec::with_capacity(alloc, rows.len())?;
+    let mut left = rows.walk();
+    for _row in 0..rows.len() {
+        let Some((row, behind)) = left.split_first() else {
+            break;
+        };
+        listed.push(*row)?;
+        left = behind;
+    }
+    format!(in alloc; "Some({listed:?})")
+}
+
 /// The rows that the last look found, where it was at the cells from 1 to 3, and where from 1 to 2.
 fn shown_again(alloc: Global, run: &Run<'_>) -> Result<String, AllocError> {
-    let same = run.rows_again(&ONE_TO_THREE).map(|rows| rows.as_slice());
-    let other = run.rows_again(&ONE_TO_TWO).map(|rows| rows.as_slice());
-    format!(in alloc; "{same:?} {other:?}")
+    let same = shown_rows(alloc, run.rows_again(&ONE_TO_THREE))?;
+    let other = shown_rows(alloc, run.rows_again(&ONE_TO_TWO))?;
+    format!(in alloc; "{same} {other}")
 }
 
 /// The changed cells' first columns with what they were changed to.
@@ -140,7 +157,7 @@ fn answered(
             Ok(Some(run.answer_scan(rows)))
         }
         "shared" => {
-            let rows = SharedRows::new(Sequence::from_slice(alloc, rows)?)?;
+            let rows = RowPieces::from_list(Sequence::from_slice(alloc, rows)?)?;
             Ok(Some(run.answer_shared(rows)))
         }
         "none" => Ok(Some(run.answer_get(None))),

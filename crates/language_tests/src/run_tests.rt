@@ -8,7 +8,7 @@ use crate::told::is_told;
 use example_sets::{SMALL_BANK, set_of};
 use prog_check::ProgramSet;
 use prog_run::{Deed, Next, Run};
-use prog_tree::{Cell, Region, Sequence, SharedRows};
+use prog_tree::{Cell, Region, RowPieces, Sequence};
 use std::alloc::{AllocError, Global};
 use std::process::Abort;
 use std::test::Fail;
@@ -246,7 +246,7 @@ fn asked_for(rt: &impl Abort, run: &mut Run<'_>) -> Region
 fn take_known(rt: &impl Abort, alloc: Global, set: &ProgramSet) {
     let mut run = Run::new(alloc, set, 0, &[]).expect(rt, "a run");
     let region = asked_for(rt, &mut run);
-    let rows = SharedRows::new(Sequence::new(alloc)).expect(rt, "memory");
+    let rows = RowPieces::from_list(Sequence::new(alloc)).expect(rt, "memory");
     let next = run.answer_rows(rows).expect(rt, "memory");
     assert!(rt; next == Next::Did(Deed::Summed(region, 0)));
 }

@@ -19,9 +19,9 @@ use Rattle.prog_tree.specs.Syntax as s
 use Rattle.prog_tree.specs.Numbering.{number_of}
 use Rattle.prog_tree.specs.Steps.{bound, did, replied, wrote, keeps, looked}
 use Rattle.prog_tree.specs.Value.{Bindings, same_name, exact, value_of}
-use Rattle.prog_tree.specs.Table.{IsI64Cell, TableState, row_at}
+use Rattle.prog_tree.specs.Table.{IsI64Cell, TableState, row_at, total_of}
 use Rattle.prog_tree.specs.ChangeSet.{ChangeSet, change_at, with_change, with_kept}
-use Rattle.prog_tree.specs.Evaluation.{Flow, GoesOn, Stops, with_value, in_range, with_rows, if_present, seen_or, with_seen, cell_of, region_of, total_of, own_cells, rows_left, rows_seen, run_statement}
+use Rattle.prog_tree.specs.Evaluation.{Flow, GoesOn, Stops, with_value, in_range, with_rows, if_present, seen_or, with_seen, cell_of, region_of, own_cells, rows_left, rows_seen, run_statement}
 use Rattle.prog_check.specs.declared.path.Kind.{Kind}
 use Rattle.prog_check.specs.declared.path.Kind.TheVariants.{Reads, Sees, Lacks, Writes, Adds, Keeps}
 use Rattle.prog_check.specs.declared.path.Access.{Access}

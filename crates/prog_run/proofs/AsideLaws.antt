@@ -10,9 +10,9 @@ use Rattle.prog_tree.specs.declared.look.Look.{Look}
 use Rattle.prog_tree.specs.declared.progress.Progress.{Progress}
 use Rattle.prog_tree.specs.Steps.{looked}
 use Rattle.prog_tree.specs.Syntax.{Name}
-use Rattle.prog_tree.specs.Table.{TableState}
+use Rattle.prog_tree.specs.Table.{TableState, total_of}
 use Rattle.prog_tree.specs.Value.{exact}
-use Rattle.prog_tree.specs.Evaluation.{Flow, GoesOn, Stops, total_of}
+use Rattle.prog_tree.specs.Evaluation.{Flow, GoesOn, Stops}
 use Rattle.prog_run.specs.Statement.{IsFlow}
 use Rattle.prog_run.specs.Step.{IsUsed, cursor_behind}
 use Rattle.prog_run.specs.Task.{RegionUseTree, Counts, Sums, Lists, found_flow, rows_flow}

@@ -10,10 +10,10 @@ use Rattle.prog_tree.specs.declared.progress.Progress.{Progress}
 use Rattle.prog_tree.specs.declared.table.TableDecl.{TableDecl}
 use Rattle.prog_tree.specs.Syntax.{Name, KeyTree, RangeTree, ListingTree, StatementTree, BlockTree}
 use Rattle.prog_tree.specs.Syntax as s
-use Rattle.prog_tree.specs.Table.{TableState}
+use Rattle.prog_tree.specs.Table.{TableState, total_of}
 use Rattle.prog_tree.specs.declared.deed.Deed.TheVariants.{Counted, Summed, Listed}
 use Rattle.prog_tree.specs.Steps.{closed, bound, did}
-use Rattle.prog_tree.specs.Evaluation.{Evaluation, Flow, GoesOn, Stops, with_value, if_present, and_then, at_key, in_range, seen_or, with_rows, Turn, begun_turn, turns_of, run_turns, run_statement, run_block, ended, cell_of, region_of, total_of}
+use Rattle.prog_tree.specs.Evaluation.{Evaluation, Flow, GoesOn, Stops, with_value, if_present, and_then, at_key, in_range, seen_or, with_rows, Turn, begun_turn, turns_of, run_turns, run_statement, run_block, ended, cell_of, region_of}
 use Rattle.prog_tree.specs.Numbering.{number_of}
 use Rattle.prog_tree.specs.Value.{exact, value_of}
 use Rattle.prog_tree.specs.ChangeSet.{change_at}

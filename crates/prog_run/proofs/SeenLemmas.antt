@@ -1,6 +1,6 @@
 -- The rows that a run sees in a region: those of its look and its own changes, merged in one pass.
 use Rattle.std.proofs.Common.{◌≡◌, ℕ, zero, suc, ◌+◌, List, [], ◌∷◌, ◌++◌, refl, ap, sym, subst, ◌∙◌, true, false, not, cond, arith, ◌<◌, length, take, drop, get_or, add-one, drop-cons, append_assoc}
-use Rattle.std.specs.Prelude.{ℤ, ◌+ℤ◌, Bool, ◌||◌, Option, Some, None, filter, unwrap_or}
+use Rattle.std.specs.Prelude.{ℤ, Bool, ◌||◌, Option, Some, None, filter, unwrap_or}
 use Rattle.std.proofs.Math.Numerals.{one-add}
 use Rattle.std.specs.declared.cmp.Ordering.{Ordering}
 use Rattle.std.specs.declared.cmp.Ordering.TheVariants.{Less, Equal, Greater}
@@ -15,7 +15,7 @@ use Rattle.prog_tree.specs.declared.cell.Cell.{Cell}
 use Rattle.prog_tree.specs.declared.cell.Region.{Region}
 use Rattle.prog_tree.specs.Table.{cell_cmp, is_in, is_cell_among, cells_of, TableState, row_at, with_row, without_row, row_held}
 use Rattle.prog_tree.specs.ChangeSet.{ChangedCells, changes_in, changed_row, changed}
-use Rattle.prog_tree.specs.Evaluation.{total_of, rows_without}
+use Rattle.prog_tree.specs.Evaluation.{rows_without}
 use Rattle.prog_tree.proofs.CellSets.{none-above, turned}
 use Rattle.prog_tree.proofs.TableLemmas.{cell_total, find_is, absent_stays, absent_rest}
 use Rattle.prog_tree.proofs.ChangedLemmas.{row_at-changed}
@@ -184,12 +184,3 @@ module _ (own : ChangedCells) (i : ℕ) (d : Cell × Option ℤ) (left : TableSt
       ∙ ap (λ k. seen ++ (take k left ++ (row_held change.0 change.1 ++ changed (drop k left) (drop (i + 1) own)))) count
       ∙ ap (λ rows. seen ++ rows) (sym (merged change (drop (i + 1) own) left at.ordered at.absent))
       ∙ ap (λ es. seen ++ changed left es) (sym split) ∙ h
-
--- ---- totals
-
--- the values from one row on
-pub total_more : (rows : TableState) (i : ℕ) (d : Cell × ℤ) (v : ℤ) → i < length rows → v ≡ (get_or rows i d).1 →
-    total_of (drop i rows) ≡ v +ℤ total_of (drop (i + 1) rows)
-total_more rows i d v lt e =
-    let split : drop i rows ≡ get_or rows i d ∷ drop (i + 1) rows = rw add-one (drop-cons rows i d lt) in
-    ap total_of split ∙ ap (λ z. z +ℤ total_of (drop (i + 1) rows)) (sym e)

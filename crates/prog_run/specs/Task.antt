@@ -13,9 +13,9 @@ use Rattle.prog_tree.specs.Syntax as s
 use Rattle.prog_tree.specs.Tree.{expr_tree, listing_tree, block_tree}
 use Rattle.prog_tree.specs.Numbering.{number_of}
 use Rattle.prog_tree.specs.Value.{Bindings, value_of, exact}
-use Rattle.prog_tree.specs.Table.{TableState}
+use Rattle.prog_tree.specs.Table.{TableState, total_of}
 use Rattle.prog_tree.specs.Steps.{bound, did, wrote, keeps}
-use Rattle.prog_tree.specs.Evaluation.{Flow, GoesOn, Stops, with_value, if_present, with_seen, with_rows, cell_of, region_of, total_of}
+use Rattle.prog_tree.specs.Evaluation.{Flow, GoesOn, Stops, with_value, if_present, with_seen, with_rows, cell_of, region_of}
 use Rattle.prog_run.specs.declared.task.CellUse.{CellUse}
 use Rattle.prog_run.specs.declared.task.CellUse.TheVariants as of_cell
 use Rattle.prog_run.specs.declared.task.RegionUse.{RegionUse}

@@ -1,12 +1,12 @@
 //! Open blocks, and the turns that are left of an `each`.
-ghost use Rattle.std.specs.Prelude.{◌≡◌, IfOk, option_map};
+ghost use Rattle.std.specs.Prelude.{◌≡◌, ◌++◌, IfOk, OnOk, option_map};
 ghost use Rattle.prog_tree.specs.Evaluation.{last_column, turns_of};
 ghost use Rattle.prog_tree.specs.Tree.{range_tree, stmts_tree};
 ghost use Rattle.prog_run.specs.Todo.{next_turn, in_turn};
 ghost use Rattle.prog_run.specs.Cursor.{open_tree, turn_tree};
 ghost use Rattle.prog_run.specs.Step.{rest_after};
 
-use prog_tree::{Block, Cell, Name, Range, Stmt};
+use prog_tree::{Block, Cell, Name, Range, RowPieces, Stmt};
 use std::alloc::{AllocError, Global};
 use std::collections::VecDeque;
 
@@ -90,17 +90,32 @@ fn column(range: &Range, cell: &Cell) -> i64
     }
 }
 
+// Adds a turn for each row behind others.
+fn push_turns(
+    turns: &mut VecDeque<(i64, i64)>,
+    range: &Range,
+    rows: &[(Cell, i64)],
+) -> Result<(), AllocError>
+    ensures { OnOk result
+        (turns.new.items ≡ turns.old.items ++ turns_of (range_tree range.now) rows.now) }
+{
+    for (cell, value) in rows {
+        turns.push_back((column(range, cell), *value))?;
+    }
+    Ok(())
+}
+
 /// A turn for each row.
 pub fn turns_over(
     alloc: Global,
     range: &Range,
-    rows: &[(Cell, i64)],
+    rows: &RowPieces,
 ) -> Result<VecDeque<(i64, i64)>, AllocError>
     ensures { IfOk result (λ turns. turns.items ≡ turns_of (range_tree range.now) rows.now) }
 {
     let mut turns = VecDeque::with_capacity(alloc, rows.len())?;
-    for (cell, value) in rows {
-        turns.push_back((column(range, cell), *value))?;
+    for piece in rows.pieces() {
+        push_turns(&mut turns, range, piece.rows())?;
     }
     Ok(turns)
 }

@@ -19,8 +19,8 @@ use crate::statement::{OVERFLOW, begin, count_rows, sum_rows};
 use crate::task::{RegionUse, task_of};
 use prog_check::ProgramSet;
 use prog_tree::{
-    Block, Cause, Cell, Deed, End, Expr, Listing, Look, Name, Progress, Region, Sequence,
-    SharedRows, Stmt, Test,
+    Block, Cause, Deed, End, Expr, Listing, Look, Name, Progress, Region, RowPieces, Sequence,
+    Stmt, Test,
 };
 use std::alloc::AllocError;
 use std::mem;
@@ -262,7 +262,7 @@ impl<'a> Cursor<'a> {
         progress: &mut Progress<'a>,
         region: Region,
         usage: RegionUse<'a>,
-        rows: SharedRows,
+        rows: RowPieces,
     ) -> Result<Step<'a>, AllocError>
         ensures flow { IfOk result
             (λ s. IsRegionAnswered (region_use_tree usage.entry) region rows s progress.old
@@ -289,7 +289,7 @@ impl<'a> Cursor<'a> {
         looks: &mut Vec<Look>,
         region: Region,
         usage: RegionUse<'a>,
-        rows: SharedRows,
+        rows: RowPieces,
     ) -> Result<Step<'a>, AllocError>
         ensures look { OnOk result (looks.new.items
             ≡ looks.old.items ++ region_look progress.old.changes region rows ∷ []) }
@@ -316,7 +316,7 @@ impl<'a> Cursor<'a> {
         progress: &mut Progress<'a>,
         region: Region,
         usage: RegionUse<'a>,
-        rows: &[(Cell, i64)],
+        rows: &RowPieces,
     ) -> Result<Step<'a>, AllocError>
         ensures used { IfOk result
             (λ s. IsUsed (region_use_tree usage.entry) region rows.now s (cursor_tree self.old)
@@ -347,7 +347,7 @@ impl<'a> Cursor<'a> {
         region: Region,
         listing: &'a Listing,
         body: &'a Block,
-        rows: &[(Cell, i64)],
+        rows: &RowPieces,
     ) -> Result<Step<'a>, AllocError>
         ensures listed { IfOk result
             (λ s. IsUsed (Lists (listing_tree listing.now) (block_tree body.now)) region rows.now s

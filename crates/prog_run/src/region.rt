@@ -5,12 +5,12 @@ ghost use Rattle.std.specs.List.{list_all};
 ghost use Rattle.std.specs.List.Sorted.{IsStrictlySortedBy};
 ghost use Rattle.prog_tree.specs.Table.{TableState, cell_cmp, is_in, cells_of, rows_in, row_held};
 ghost use Rattle.prog_tree.specs.ChangeSet.{changes_in, changed};
-ghost use Rattle.prog_tree.specs.Evaluation.{total_of, rows_without};
+ghost use Rattle.prog_tree.specs.Evaluation.{rows_without};
 ghost use Rattle.prog_tree.specs.Value.{exact};
 ghost use Rattle.prog_run.specs.Looks.{AreFound, IsFoundLast, region_look, seen_rows};
 ghost use Rattle.prog_run.specs.Seen.{rows_before, AreAbsent, seen_by};
 
-use prog_tree::{Cell, Changes, Look, Region, RisingCells, Sequence, SharedRows};
+use prog_tree::{Cell, Changes, Look, Region, RisingCells, RowPieces, Sequence};
 use std::alloc::{AllocError, Global};
 
 /// What a look at a region found.
@@ -19,19 +19,19 @@ pub struct Found {
     /// The cells of the region that the run had changed.
     pub own: RisingCells,
     /// The rows of all other cells.
-    pub rows: SharedRows,
+    pub rows: RowPieces,
     /// The rows with the run's own changes among them, where it has made some.
-    pub changed: Option<Sequence<(Cell, i64)>>,
+    pub changed: Option<RowPieces>,
 }
 
 impl Found {
     /// The rows that the run sees.
-    pub fn seen_rows(&self) -> &[(Cell, i64)]
+    pub fn seen_rows(&self) -> &RowPieces
         ensures { result.now ≡ seen_by self.now }
     {
         match &self.changed {
-            Some(rows) => rows.as_slice(),
-            None => self.rows.as_slice(),
+            Some(rows) => rows,
+            None => &self.rows,
         }
     }
 }
@@ -43,8 +43,20 @@ pub fn are_in(region: &Region, rows: &[(Cell, i64)]) -> bool
     rows.iter().all(|(cell, _)| region.contains(cell))
 }
 
+/// The same of rows in pieces.
+pub fn all_in(region: &Region, rows: &RowPieces) -> bool
+    ensures { result ≡ list_all (λ row. is_in region.now row.0) rows.now }
+{
+    for piece in rows.pieces() {
+        if !are_in(region, piece.rows()) {
+            return false;
+        }
+    }
+    true
+}
+
 /// The rows that the last look found, where it was at just this region and left no cells out.
-pub fn found_last<'l>(looks: &'l [Look], region: &Region) -> Option<&'l SharedRows>
+pub fn found_last<'l>(looks: &'l [Look], region: &Region) -> Option<&'l RowPieces>
     ensures last { IsFoundLast looks.now region.now (option_copied result) }
     ensures held { IfSome result (λ rows. (m : TableState) →
         AreFound m looks.now → rows.now ≡ rows_in region.now m) }
@@ -94,19 +106,33 @@ fn changed_cells(alloc: Global, own: &[(Cell, Option<i64>)]) -> Result<Vec<Cell>
     Ok(cells)
 }
 
+// Adds rows behind others, but for those of some cells.
+fn push_left(
+    left: &mut Vec<(Cell, i64)>,
+    rows: &[(Cell, i64)],
+    own: &RisingCells,
+) -> Result<(), AllocError>
+    ensures { OnOk result (left.new.items ≡ left.old.items ++ rows_without own.now rows.now) }
+{
+    for row in rows {
+        if !own.contains(&row.0) {
+            left.push(*row)?;
+        }
+    }
+    Ok(())
+}
+
 // The rows but for those of some cells.
 fn without_own(
     alloc: Global,
-    rows: &[(Cell, i64)],
+    rows: &RowPieces,
     own: &RisingCells,
 ) -> Result<Vec<(Cell, i64)>, AllocError>
     ensures { IfOk result (λ left. left.items ≡ rows_without own.now rows.now) }
 {
     let mut left = Vec::with_capacity(alloc, rows.len())?;
-    for row in rows {
-        if !own.contains(&row.0) {
-            left.push(*row)?;
-        }
+    for piece in rows.pieces() {
+        push_left(&mut left, piece.rows(), own)?;
     }
     Ok(left)
 }
@@ -154,24 +180,6 @@ fn merge(
     Ok(seen)
 }
 
-// The value of a row, which so is known to be an i64.
-fn row_value(row: &(Cell, i64)) -> i64
-    ensures { result ≡ row.now.1 }
-{
-    row.1
-}
-
-/// The values of rows, added up.
-pub fn add_rows(rows: &[(Cell, i64)]) -> i128
-    ensures { result ≡ total_of rows.now }
-{
-    let mut total = 0;
-    for row in rows {
-        total += i128::from(row_value(row));
-    }
-    total
-}
-
 /// A number as an i64, or nothing where it is none.
 pub fn exact_i64(number: i128) -> Option<i64>
     ensures { result ≡ exact number }
@@ -185,7 +193,7 @@ pub fn look_at_region(
     alloc: Global,
     changes: &Changes,
     region: Region,
-    rows: SharedRows,
+    rows: RowPieces,
 ) -> Result<Found, AllocError>
     ensures look { IfOk result (λ found.
         Look.Range region found.own found.rows ≡ region_look changes.now region rows) }
@@ -201,12 +209,13 @@ pub fn look_at_region(
     }
     let own_cells = changed_cells(alloc, &own)?;
     let left_out = RisingCells::from_vec(own_cells);
-    let left = without_own(alloc, rows.as_slice(), &left_out)?;
+    let left = without_own(alloc, &rows, &left_out)?;
     let seen = merge(alloc, &left, &own)?;
-    let rows = SharedRows::new(Sequence::from_vec(left))?;
+    let rows = RowPieces::from_list(Sequence::from_vec(left))?;
+    let changed = RowPieces::from_list(Sequence::from_vec(seen))?;
     Ok(Found {
         own: left_out,
         rows,
-        changed: Some(Sequence::from_vec(seen)),
+        changed: Some(changed),
     })
 }

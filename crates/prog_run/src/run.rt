@@ -13,12 +13,12 @@ use crate::block::OpenBlock;
 use crate::cursor::Cursor;
 use crate::fault::{AnswerFault, RunFault};
 use crate::next::Next;
-use crate::region::{are_in, found_last};
+use crate::region::{all_in, are_in, found_last};
 use crate::statement::answer_cell;
 use crate::task::Asked;
 use prog_check::ProgramSet;
 use prog_tree::{
-    Cell, Changes, End, Env, Look, Name, Program, Progress, Region, Sequence, SharedRows, TableDecl,
+    Cell, Changes, End, Env, Look, Name, Program, Progress, Region, RowPieces, Sequence, TableDecl,
 };
 use std::alloc::{AllocError, Global};
 use std::marker::Model;
@@ -180,19 +180,19 @@ impl<'a> Run<'a> {
         if let Some(fault) = self.rows_fault(rows.as_slice()) {
             return Err(fault);
         }
-        let rows = SharedRows::new(rows)?;
+        let rows = RowPieces::from_list(rows)?;
         Ok(self.answer_rows(rows)?)
     }
 
     /// Answers as `answer_scan` does, with rows that looks share.
-    pub fn answer_shared(&mut self, shared: SharedRows) -> Result<Next, AnswerFault>
+    pub fn answer_shared(&mut self, shared: RowPieces) -> Result<Next, AnswerFault>
         ensures refused { IsRefusedBy (scan_fault (asked_region self.old.asked) shared) result }
         ensures answered { IfOk result (λ next. IsRowsAnswered shared next self.old self.new) }
         ensures true_run { IsTrueRun self.new }
         ensures same { SameBegin self.old self.new }
         ensures err { OnErr result (self.new ≡ self.old) }
     {
-        if let Some(fault) = self.rows_fault(shared.as_slice()) {
+        if let Some(fault) = self.shared_fault(&shared) {
             return Err(fault);
         }
         Ok(self.answer_rows(shared)?)
@@ -221,9 +221,23 @@ impl<'a> Run<'a> {
         Some(AnswerFault::BadRows)
     }
 
+    // What is wrong with an answer of rows in pieces.
+    fn shared_fault(&self, rows: &RowPieces) -> Option<AnswerFault>
+        ensures fault { result ≡ scan_fault (asked_region self.now.asked) rows.now }
+        ensures true_run { IsTrueRun self.now }
+    {
+        let Some(region) = self.asked_region() else {
+            return Some(AnswerFault::NotAsked);
+        };
+        if all_in(&region, rows) {
+            return None;
+        }
+        Some(AnswerFault::BadRows)
+    }
+
     /// Answers as `answer_scan` does, for a caller that knows that the run asks for rows, and that
     /// these lie in its region: they are not tested.
-    pub fn answer_rows(&mut self, rows: SharedRows) -> Result<Next, AllocError>
+    pub fn answer_rows(&mut self, rows: RowPieces) -> Result<Next, AllocError>
         requires { scan_fault (asked_region self.old.asked) rows ≡ None }
         ensures answered { IfOk result (λ next. IsRowsAnswered rows next self.old self.new) }
         ensures true_run { IsTrueRun self.new }
@@ -279,7 +293,7 @@ impl<'a> Run<'a> {
 
     /// The rows of a region, where the last look was at just this one and the run had changed
     /// nothing there: the snapshot holds what that look found.
-    pub fn rows_again(&self, region: &Region) -> Option<&SharedRows>
+    pub fn rows_again(&self, region: &Region) -> Option<&RowPieces>
         ensures last { IsFoundLast self.now.looks region.now (option_copied result) }
         ensures held { IfSome result (λ rows. (m : TableState) →
             AreFound m self.now.looks → rows.now ≡ rows_in region.now m) }

@@ -8,9 +8,9 @@ ghost use Rattle.prog_run.specs.Statement.{written_by, IsFlow, IsBegun, IsCellAn
 
 use crate::next::Step;
 use crate::notes::{note_deed, note_found};
-use crate::region::{add_rows, exact_i64};
+use crate::region::exact_i64;
 use crate::task::{Asked, CellUse, Task};
-use prog_tree::{Cause, Cell, Deed, End, Expr, Look, Name, Progress, Region};
+use prog_tree::{Cause, Cell, Deed, End, Expr, Look, Name, Progress, Region, RowPieces};
 use std::alloc::AllocError;
 
 /// The end of a run with a number that is no i64.
@@ -165,7 +165,7 @@ pub fn count_rows<'a>(
     progress: &mut Progress<'a>,
     region: Region,
     name: &'a Name,
-    rows: &[(Cell, i64)],
+    rows: &RowPieces,
 ) -> Result<Step<'a>, AllocError>
     ensures flow { IfOk result
         (λ s. IsFlow (rows_flow (Counts name.now) region rows.now progress.old) s progress.old
@@ -185,14 +185,14 @@ pub fn sum_rows<'a>(
     progress: &mut Progress<'a>,
     region: Region,
     name: &'a Name,
-    rows: &[(Cell, i64)],
+    rows: &RowPieces,
 ) -> Result<Step<'a>, AllocError>
     ensures flow { IfOk result
         (λ s. IsFlow (rows_flow (Sums name.now) region rows.now progress.old) s progress.old
         progress.new) }
     ensures err { OnErr result (progress.new ≡ progress.old) }
 {
-    let Some(value) = exact_i64(add_rows(rows)) else {
+    let Some(value) = exact_i64(rows.total()) else {
         return Ok(Step::Over(OVERFLOW));
     };
     let deed = Deed::Summed(region, value);

@@ -6,6 +6,7 @@ pub mod Literals
 pub mod LookedAt
 pub mod Number
 pub mod Numbering
+pub mod Pieces
 pub mod Steps
 pub mod Syntax
 pub mod Table

@@ -1,5 +1,5 @@
 -- Cells, regions and table states.
-use Rattle.std.specs.Prelude.{ℤ, ◌==◌, int_le, Bool, ◌&&◌, not, List, [], ◌∷◌, map, filter, Option, Some, None}
+use Rattle.std.specs.Prelude.{ℤ, pos, ◌+ℤ◌, ◌==◌, int_le, Bool, ◌&&◌, not, List, [], ◌∷◌, map, filter, Option, Some, None}
 use Rattle.std.specs.List.{list_any, All}
 use Rattle.std.specs.List.Sorted.{IsStrictlySortedBy}
 use Rattle.std.specs.Ordering.{nat_cmp, int_cmp, ordering_then}
@@ -77,3 +77,8 @@ without_row m c = filter (λ row. not (is_same_cell c row.0)) m
 
 abbrev pub rows_in : Region → TableState → TableState
 rows_in r m = filter (λ row. is_in r row.0) m
+
+-- the values of rows, added up
+abbrev pub total_of : TableState → ℤ
+total_of [] = pos 0
+total_of (row ∷ rows) = row.1 +ℤ total_of rows

@@ -4,7 +4,7 @@ ghost use Rattle.std.specs.Prelude.{◌≡◌, ◌↔◌, IsTrue};
 
 use crate::cell::{Cell, Region};
 use crate::rising::RisingCells;
-use crate::shared_rows::SharedRows;
+use crate::row_pieces::RowPieces;
 
 /// What an instance found in its snapshot.
 #[derive(Debug, Drop)]
@@ -16,14 +16,33 @@ pub enum Look {
     Range {
         region: Region,
         own: RisingCells,
-        rows: SharedRows,
+        rows: RowPieces,
     },
 }
 
-fn same_rows(rows: &SharedRows, others: &SharedRows) -> bool
+fn is_same_row(row: &(Cell, i64), other: &(Cell, i64)) -> bool
+    ensures { IsTrue result ↔ (row.now ≡ other.now) }
+{
+    row.0 == other.0 && row.1 == other.1
+}
+
+// The rows may be cut into pieces in different ways.
+fn same_rows(rows: &RowPieces, others: &RowPieces) -> bool
     ensures { IsTrue result ↔ (rows.now ≡ others.now) }
 {
-    rows.as_slice() == others.as_slice()
+    let mut left = rows.walk();
+    let mut right = others.walk();
+    while let Some((row, left_behind)) = left.split_first() {
+        let Some((other, right_behind)) = right.split_first() else {
+            return false;
+        };
+        if !is_same_row(row, other) {
+            return false;
+        }
+        left = left_behind;
+        right = right_behind;
+    }
+    right.is_empty()
 }
 
 impl Look {

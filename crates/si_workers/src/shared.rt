@@ -11,7 +11,7 @@ use history_book::{
     BeginFault, Book, CommitFault, EndFault, NoSuchTicket, Receipt, ScanFault, Ticket,
 };
 use prog_run::Run;
-use prog_tree::{Cell, Region, Sequence};
+use prog_tree::{Cell, Region, RowPieces, Sequence};
 use std::hint::spin_loop;
 use std::sync::{RwLock, RwLockReadGuard, RwLockWriteGuard, Wait};
 use std::thread::yield_now;
@@ -82,7 +82,7 @@ fn begin_there(
     book.begin_at(start, program, args)
 }
 
-pub(crate) fn rows_there(
+fn rows_there(
     book: &Book<'_>,
     ticket: &Ticket,
     region: &Region,
@@ -90,6 +90,16 @@ pub(crate) fn rows_there(
     ensures { IfOk result (AreRowsOf region.now) }
 {
     book.scan(ticket, region)
+}
+
+pub(crate) fn pieces_there(
+    book: &Book<'_>,
+    ticket: &Ticket,
+    region: &Region,
+) -> Result<RowPieces, ScanFault>
+    ensures { IfOk result (AreRowsOf region.now) }
+{
+    book.scan_pieces(ticket, region)
 }
 
 fn commit_there<'a>(

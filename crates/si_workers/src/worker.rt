@@ -17,7 +17,7 @@ use history_book::{BeginFault, CommitFault, EndFault, Ticket, Unused};
 use job_counter::{Counter, Pass};
 use prog_check::ProgramSet;
 use prog_run::{Next, Run};
-use prog_tree::{Cause, End, Region, Sequence, SharedRows};
+use prog_tree::{Cause, End, Region, Sequence};
 use std::alloc::Global;
 
 /// What a worker did: its pass, what came of its jobs, and whether memory ran out.
@@ -43,8 +43,7 @@ fn answer_region<'a, D: Desk<'a>>(
         let shared = rows.share()?;
         return Ok(run.answer_shared(shared)?);
     }
-    let found = desk.scan(job, ticket, region)?;
-    let rows = SharedRows::new(found)?;
+    let rows = desk.scan(job, ticket, region)?;
     Ok(run.answer_rows(rows)?)
 }
 

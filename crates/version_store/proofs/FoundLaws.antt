@@ -1,6 +1,6 @@
 -- The rows that are found in chains, one behind another.
-use Rattle.std.proofs.Common.{◌≡◌, ◌∙◌, ℕ, ℤ, Bool, true, false, cond, if◌then◌else◌, List, [], ◌∷◌, ◌++◌, refl, ap, sym, subst, arith}
-use Rattle.std.specs.Prelude.{◌↔◌, ◌==◌, IsTrue, length, Option, Some, None, filter, unwrap_or}
+use Rattle.std.proofs.Common.{◌≡◌, ◌∙◌, ℕ, ℤ, Bool, true, false, cond, if◌then◌else◌, List, [], ◌∷◌, ◌++◌, refl, ap, sym, subst}
+use Rattle.std.specs.Prelude.{◌↔◌, IsTrue, Option, Some, None, filter, unwrap_or}
 use Rattle.std.specs.Cmp.{tied_itself}
 use Rattle.std.specs.declared.cmp.Ordering.TheVariants.{Less}
 use Rattle.std.specs.List.{AllByRecursion, flat_map}
@@ -8,7 +8,6 @@ use Rattle.std.specs.List.Sorted.{IsStrictlySortedBy}
 use Rattle.std.specs.FinMap.Entries.{find-where_key}
 use Rattle.std.specs.Ordering.{is_eq}
 use Rattle.std.specs.Option.{option_or}
-use Rattle.std.proofs.lemmas.Bool.{eqb-true}
 use Rattle.std.proofs.lemmas.List.{append_assoc, append-nil}
 use Rattle.std.proofs.lemmas.List.Kept.{IsStrictlySortedBy-filter}
 use Rattle.std.proofs.lemmas.Map.Keys.{sorted_tail}
@@ -72,21 +71,21 @@ row_at-found_rows seen (e ∷ es) h c =
     turn false apart rest = rest
 
 -- the rows that are found are what is seen
-is_seen : (seen : Seen) → ((c : Cell) → seen c no_chain ≡ None) → (chains : Cells Chain) → IsStrictlySortedBy cell_cmp (cells_of chains) → IsSeen seen chains (found_rows seen chains)
+pub is_seen : (seen : Seen) → ((c : Cell) → seen c no_chain ≡ None) → (chains : Cells Chain) → IsStrictlySortedBy cell_cmp (cells_of chains) → IsSeen seen chains (found_rows seen chains)
 is_seen seen unseen chains sorted = (in_order seen chains sorted, λ c. row_at-found_rows seen chains sorted c ∙ go c (at_cell chains c))
   where
     go : (c : Cell) (o : Option Chain) → seen_at seen c o ≡ seen c (unwrap_or o no_chain)
     go c None = sym (unseen c)
     go c (Some chain) = refl
 
-found_is : (seen : Seen) → ((c : Cell) → seen c no_chain ≡ None) → (chains : Cells Chain) → IsStrictlySortedBy cell_cmp (cells_of chains) → (m : TableState) → IsSeen seen chains m → found_rows seen chains ≡ m
+pub found_is : (seen : Seen) → ((c : Cell) → seen c no_chain ≡ None) → (chains : Cells Chain) → IsStrictlySortedBy cell_cmp (cells_of chains) → (m : TableState) → IsSeen seen chains m → found_rows seen chains ≡ m
 found_is seen unseen chains sorted m h =
     let found = is_seen seen unseen chains sorted in
     same_state (found_rows seen chains) m found.0 h.0 (λ c. found.1 c ∙ sym (h.1 c))
 
 -- ---- a part of the chains
 
-cells-filter : {A : Type 0} (p : Cell → Bool) (es : Cells A) → filter p (cells_of es) ≡ cells_of (filter (λ e. p e.0) es)
+pub cells-filter : {A : Type 0} (p : Cell → Bool) (es : Cells A) → filter p (cells_of es) ≡ cells_of (filter (λ e. p e.0) es)
 cells-filter p [] = refl
 cells-filter p (e ∷ es) = ap (λ cs. cond (p e.0) (e.0 ∷ cs) cs) (cells-filter p es) ∙ go (p e.0)
   where
@@ -94,7 +93,7 @@ cells-filter p (e ∷ es) = ap (λ cs. cond (p e.0) (e.0 ∷ cs) cs) (cells-filt
     go true = refl
     go false = refl
 
-at_cell-filter : {A : Type 0} (p : Cell → Bool) (es : Cells A) (c : Cell) → at_cell (filter (λ e. p e.0) es) c ≡ cond (p c) (at_cell es c) None
+pub at_cell-filter : {A : Type 0} (p : Cell → Bool) (es : Cells A) (c : Cell) → at_cell (filter (λ e. p e.0) es) c ≡ cond (p c) (at_cell es c) None
 at_cell-filter p es c =
     find_is (filter (λ e. p e.0) es) c
     ∙ find-where_key cell_cmp p c (λ x t. ap p (sym (same_cell c x t))) es
@@ -159,7 +158,7 @@ beside region low high c corners apart = go (is_in region c) (corners.1 c)
 abbrev nothing : Option ℤ
 nothing = None
 
-outside_region : (region : Region) (n : ℕ) (c : Cell) (chain : Chain) → is_in region c ≡ false → seen_in region n c chain ≡ None
+pub outside_region : (region : Region) (n : ℕ) (c : Cell) (chain : Chain) → is_in region c ≡ false → seen_in region n c chain ≡ None
 outside_region region n c chain apart = ap (λ b. if b then value_at n chain else None) apart
 
 outside_left : (region : Region) (own : List Cell) (n : ℕ) (c : Cell) (chain : Chain) → is_in region c ≡ false → seen_left region own n c chain ≡ None
@@ -169,7 +168,7 @@ outside_left region own n c chain apart = ap (λ o. if is_cell_among own c then 
     go true = refl
     go false = refl
 
-no_chain_in : (region : Region) (n : ℕ) (c : Cell) → seen_in region n c no_chain ≡ None
+pub no_chain_in : (region : Region) (n : ℕ) (c : Cell) → seen_in region n c no_chain ≡ None
 no_chain_in region n c = go (is_in region c)
   where
     go : (b : Bool) → (if b then value_at n no_chain else None) ≡ None
@@ -311,17 +310,15 @@ left_nothing region own n chains corners m h = same_state m [] h.0 IsTableState-
 
 -- ---- the end of a comparison
 
-pub empty_is : (rows m : TableState) (b : Bool) → b ≡ (length rows == 0) → m ≡ [] → IsTrue b ↔ (m ≡ rows)
-empty_is [] m b e none = (λ t. none, λ same. e)
-empty_is (row ∷ rows) m b e none = (λ t. let never : length (row ∷ rows) ≡ 0 = eqb-true _ _ (sym e ∙ t) in absurd (omega (arith, never)), λ same. let never = sym none ∙ same in absurd (cc))
+pub empty_is : (rows m : TableState) (b : Bool) → (IsTrue b ↔ (rows ≡ [])) → m ≡ [] → IsTrue b ↔ (m ≡ rows)
+empty_is rows m b empty none = (λ t. none ∙ sym (empty.0 t), λ same. empty.1 (sym same ∙ none))
 
 pub matched :
     (seen : Seen) (all : TableState) (left : Cells Chain) (rest rows m : TableState) (b : Bool) → left ≡ [] → Matches seen all left rest rows → all ≡ m →
-    b ≡ (length rest == 0) → IsTrue b ↔ (m ≡ rows)
-matched seen all left rest rows m b none h is e =
-    let empty = empty_is rest [] b e refl in
+    (IsTrue b ↔ (rest ≡ [])) → IsTrue b ↔ (m ≡ rows)
+matched seen all left rest rows m b none h is empty =
     let at_end : found_rows seen left ≡ [] = ap (found_rows seen) none in
-    (λ t. sym is ∙ h.same.0 (at_end ∙ empty.0 t), λ same. empty.1 (sym at_end ∙ h.same.1 (is ∙ same)))
+    (λ t. sym is ∙ h.same.0 (at_end ∙ sym (empty.0 t)), λ same. empty.1 (sym (h.same.1 (is ∙ same)) ∙ at_end))
 
 pub unmatched : (rows found m : TableState) → found ≡ m → (found ≡ rows → ⊥) → IsTrue false ↔ (m ≡ rows)
 unmatched rows found m is never = (λ t. absurd (cc), λ same. absurd (never (is ∙ same)))

@@ -1,3 +1,4 @@
+pub mod Blocks
 pub mod Clash
 pub mod Commits
 pub mod Newest

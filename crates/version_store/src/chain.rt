@@ -1,12 +1,14 @@
 //! What the store keeps of one cell.
 ghost use Rattle.std.specs.Prelude.{◌≡◌, ◌↔◌, ◌≤◌, ◌+◌, length, leb, None, IsTrue, OnOk, OnErr};
 ghost use Rattle.std.specs.List.{prefix_len};
+ghost use Rattle.version_store.specs.Blocks.{HoldsIn};
 ghost use Rattle.version_store.specs.Reading.{RisesFrom, value_at, last_number_or, last_number};
 ghost use Rattle.version_store.specs.Reading.{cut_from};
 ghost use Rattle.version_store.specs.StandsFor.{no_chain, trimmed};
 ghost use Rattle.version_store.specs.Touches.{with_touch};
 
 use crate::rare::Rare;
+use crate::stretch::Stretch;
 use crate::touches::Touch;
 use crate::versions::Versions;
 use std::alloc::{AllocError, Global};
@@ -61,6 +63,14 @@ impl Chain {
         ensures { RisesFrom 0 self.now.versions → result ≡ value_at number self.now }
     {
         self.versions.value_at(number)
+    }
+
+    /// How long the cell holds what it held after the first `number` commits.
+    #[inline]
+    pub fn stretch_at(&self, number: u64) -> Stretch
+        ensures { RisesFrom 0 self.now.versions → HoldsIn result self.now.versions }
+    {
+        self.versions.stretch_at(number)
     }
 
     /// The greatest number in it, or 0.

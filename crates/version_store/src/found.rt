@@ -1,11 +1,11 @@
 //! What is found in the chain of a cell, and the rows that it adds to others.
-ghost use Rattle.std.specs.Prelude.{◌≡◌, ◌↔◌, ◌++◌, Some, OnOk, option_copied};
+ghost use Rattle.std.specs.Prelude.{◌≡◌, ◌↔◌, ◌++◌, Some, OnOk};
 ghost use Rattle.prog_tree.specs.Table.{TableState, is_cell_among, lies_between, row_held};
 ghost use Rattle.version_store.specs.Reading.{RisesFrom, value_at};
 ghost use Rattle.version_store.specs.Regions.{seen_between, left_between, with_found};
 
 use crate::chain::Chain;
-use prog_tree::{Cell, Region, RisingCells, Rows};
+use prog_tree::{Cell, Region, RisingCells, RowWalk, Rows};
 use std::alloc::AllocError;
 
 /// Adds the row of a cell after the first `start` commits, where it has one.
@@ -19,7 +19,8 @@ pub fn add_found(rows: &mut Rows, start: u64, cell: &Cell, chain: &Chain) -> Res
     Ok(())
 }
 
-fn lies_between(low: i64, x: i64, high: i64) -> bool
+/// Whether a number lies between two ends, or is one of them.
+pub fn lies_between(low: i64, x: i64, high: i64) -> bool
     ensures { result ≡ lies_between low x high }
 {
     low <= x && x <= high
@@ -78,13 +79,9 @@ pub fn push_row(
 }
 
 /// The rows behind that of a cell, if any is found of it; none where the first row is another.
-pub fn rows_behind<'r>(
-    rows: &'r [(Cell, i64)],
-    cell: &Cell,
-    found: Option<i64>,
-) -> Option<&'r [(Cell, i64)]>
+pub fn rows_behind<'r>(rows: RowWalk<'r>, cell: &Cell, found: Option<i64>) -> Option<RowWalk<'r>>
     ensures { (rest : TableState) →
-        (option_copied result ≡ Some rest) ↔ (row_held cell.now found ++ rest ≡ rows.now) }
+        (result ≡ Some rest) ↔ (row_held cell.now found ++ rest ≡ rows.entry) }
 {
     let Some(value) = found else {
         return Some(rows);

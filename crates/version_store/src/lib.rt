@@ -1,6 +1,10 @@
 //! A store of versions: what each cell held after each commit from the last vacuum's floor on.
 #![tactic(auto)]
 
+mod block;
+mod block_scan;
+mod block_walk;
+mod blocks;
 mod chain;
 mod chains;
 mod clash;
@@ -8,8 +12,10 @@ mod found;
 mod laws;
 mod pending;
 mod rare;
+mod renew;
 mod scan;
 mod store;
+mod stretch;
 mod tail;
 mod touches;
 mod version;

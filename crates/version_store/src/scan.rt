@@ -6,7 +6,7 @@ ghost use Rattle.version_store.specs.Regions.{seen_anywhere, seen_in, seen_left,
 
 use crate::chains::Chains;
 use crate::found::{add_found, left_between, push_row, rows_behind, seen_between};
-use prog_tree::{Cell, Region, RisingCells, Rows, Sequence};
+use prog_tree::{Cell, Region, RisingCells, RowPieces, Rows, Sequence};
 use std::alloc::AllocError;
 
 // For how many rows a scan makes room at most before it has found one.
@@ -59,13 +59,7 @@ impl Chains {
 
     /// Whether some rows are those of a region after the first `start` commits, but for those of
     /// some `own` cells.
-    pub fn are_held(
-        &self,
-        start: u64,
-        region: &Region,
-        own: &RisingCells,
-        rows: &[(Cell, i64)],
-    ) -> bool
+    pub fn are_held(&self, start: u64, region: &Region, own: &RisingCells, rows: &RowPieces) -> bool
         ensures { AllRise self.now → (m : TableState) →
             IsSeen (seen_left region.now own.now start) self.now m →
             IsTrue result ↔ (m ≡ rows.now) }
@@ -73,7 +67,7 @@ impl Chains {
         let Some((low, high)) = region.corners() else {
             return rows.is_empty();
         };
-        let mut rest = rows;
+        let mut rest = rows.walk();
         for (cell, chain) in self.chains.range(low..=high) {
             let found = left_between(region, own, start, cell, chain);
             let Some(after) = rows_behind(rest, cell, found) else {

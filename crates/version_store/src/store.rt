@@ -9,10 +9,11 @@ ghost use Rattle.version_store.specs.StandsFor.{StandsFor, InEachHistory, KeepsH
 ghost use Rattle.version_store.specs.Told.{told};
 ghost use Rattle.version_store.specs.Versions.{retained, reclaimed};
 
+use crate::blocks::Blocks;
 use crate::chains::Chains;
 use crate::clash::{Clash, first_clash};
 use crate::pending::Pending;
-use prog_tree::{Cell, Changes, Region, RisingCells, Rows, Sequence};
+use prog_tree::{Cell, Changes, Region, RisingCells, RowPieces, Rows, Sequence};
 use std::alloc::{AllocError, Global};
 use std::marker::Model;
 
@@ -24,9 +25,12 @@ pub struct Store {
     floor: u64,
     versions: u64,
     pending: Pending,
+    blocks: Blocks,
 }
 
 impl Model for Store {
+    ghost use Rattle.version_store.specs.Blocks.{AreTrue};
+    ghost use Rattle.version_store.specs.Reading.{AllRise};
     ghost use Rattle.version_store.specs.StandsFor.{StoreView};
 
     ghost Value = { StoreView };
@@ -38,6 +42,8 @@ impl Model for Store {
       versions = s.versions;
       pending = s.pending;
     } };
+
+    ghost invariant = { λ s. AllRise s.chains → AreTrue s.chains s.blocks };
 }
 
 impl Store {
@@ -51,6 +57,7 @@ impl Store {
             floor: 0,
             versions: opening.len() as u64,
             pending: Pending::new(alloc),
+            blocks: Blocks::new(alloc),
         })
     }
 
@@ -88,15 +95,29 @@ impl Store {
         self.chains.scan(start, region)
     }
 
+    /// Makes ready for `scan_pieces` of a region after the first `start` commits, as far as memory
+    /// allows.
+    pub fn prepare(&mut self, start: u64, region: &Region)
+        ensures { self.new ≡ self.old }
+    {
+        if self.blocks.prepare(&self.chains, start, region).is_err() {
+            self.blocks.clear();
+        }
+    }
+
+    /// The rows that `scan` reads. Those of a wide region are shared where they were made ready.
+    pub fn scan_pieces(&self, start: u64, region: &Region) -> Result<RowPieces, AllocError>
+        requires above { self.now.floor ≤ start }
+        requires within { start ≤ self.now.commits }
+        ensures { IfOk result (λ rows. InEachHistory self.now (λ opening ws.
+            rows ≡ rows_in region.now (state_at opening ws start))) }
+    {
+        self.blocks.scan(&self.chains, start, region)
+    }
+
     /// Whether some rows are those of a region after the first `start` commits, but for those of
     /// some `own` cells.
-    pub fn are_held(
-        &self,
-        start: u64,
-        region: &Region,
-        own: &RisingCells,
-        rows: &[(Cell, i64)],
-    ) -> bool
+    pub fn are_held(&self, start: u64, region: &Region, own: &RisingCells, rows: &RowPieces) -> bool
         requires above { self.now.floor ≤ start }
         requires within { start ≤ self.now.commits }
         ensures { InEachHistory self.now (λ opening ws.
@@ -156,7 +177,9 @@ impl Store {
         };
         let before = self.pending.len();
         self.pending.add(number, changes)?;
+        self.blocks.end_changed(number, changes);
         let Ok(()) = self.chains.add_commit(number, changes) else {
+            self.blocks.clear();
             self.pending.truncate(before);
             return Err(AllocError);
         };
@@ -180,6 +203,7 @@ impl Store {
         self.chains.read_order();
         let count = self.chains.vacuum(&mut self.pending, floor);
         self.chains.read_order();
+        self.blocks.clear();
         self.floor = floor;
         self.versions = self.versions.saturating_sub(count);
         count

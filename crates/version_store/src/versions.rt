@@ -2,11 +2,13 @@
 ghost use Rattle.std.specs.List.{list_all};
 ghost use Rattle.std.specs.Prelude.{◌≡◌, ◌↔◌, ◌≤◌, ◌+◌, ◌++◌, ◌∷◌, [], None, length, drop, filter};
 ghost use Rattle.std.specs.Prelude.{leb, nat_lt, IsTrue, OnOk, OnErr};
+ghost use Rattle.version_store.specs.Blocks.{HoldsIn};
 ghost use Rattle.version_store.specs.Reading.{RisesFrom, IsCutAt, value_after, version_numbers};
 ghost use Rattle.version_store.specs.Reading.{last_number_or};
 ghost use Rattle.version_store.specs.Trimming.{versions_kept};
 
 use crate::rare::Rare;
+use crate::stretch::{NOTHING, Stretch, stretch_among};
 use crate::version::Version;
 use std::alloc::{AllocError, Global};
 use std::marker::Model;
@@ -30,8 +32,8 @@ impl Model for Versions {
     ghost invariant = { λ v. HasNewest v.older v.newest };
 }
 
-// How many versions are at most a number.
-fn count_within(versions: &[Version], number: u64) -> usize
+/// How many versions are at most a number.
+pub fn count_within(versions: &[Version], number: u64) -> usize
     ensures bound { result ≤ length versions.now }
     ensures cut { RisesFrom 0 versions.now → IsCutAt number versions.now result }
 {
@@ -119,6 +121,24 @@ impl Versions {
             return newest.value;
         }
         value_among(self.older.as_slice(), number)
+    }
+
+    /// How long the cell holds what it held after the first `number` commits.
+    #[inline]
+    pub fn stretch_at(&self, number: u64) -> Stretch
+        ensures { RisesFrom 0 self.now → HoldsIn result self.now }
+    {
+        let Some(newest) = self.newest else {
+            return NOTHING;
+        };
+        if newest.number > number {
+            return stretch_among(self.older.as_slice(), number, newest.number);
+        }
+        Stretch {
+            since: newest.number,
+            till: u64::MAX,
+            value: newest.value,
+        }
     }
 
     /// Adds a version behind the others.

@@ -84,7 +84,11 @@ impl<'a> Desk<'a> {
     fn rows(&self, rt: &impl Abort) -> Answer {
         let ticket = self.ticket.as_ref().expect(rt, "a ticket");
         match self.book.scan(ticket, &FIRST_TEN) {
-            Ok(rows) => Answer::Count(rows.len() as u64),
+            Ok(rows) => {
+                let pieces = self.book.scan_pieces(ticket, &FIRST_TEN).expect(rt, "rows");
+                assert!(rt; pieces.len() == rows.len());
+                Answer::Count(rows.len() as u64)
+            }
             Err(_) => Answer::NoSuchTicket,
         }
     }

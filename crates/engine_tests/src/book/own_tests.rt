@@ -33,9 +33,9 @@ fn begun<'a>(
 }
 
 // The next statement of a run, or its end. What a cell holds is read in the book.
-fn advance(rt: &impl Abort, book: &Book<'_>, ticket: &Ticket, run: &mut Run<'_>) -> Next
-    requires { IsOfInstance book.now ticket.now run.old }
-    ensures own { IsOfInstance book.now ticket.now run.new }
+fn advance(rt: &impl Abort, book: &mut Book<'_>, ticket: &Ticket, run: &mut Run<'_>) -> Next
+    requires { IsOfInstance book.old ticket.now run.old }
+    ensures own { IsOfInstance book.new ticket.now run.new }
     ensures end { run.new.end ≡ end_after result }
 {
     book.advance(ticket, run).expect(rt, "memory")
@@ -43,9 +43,9 @@ fn advance(rt: &impl Abort, book: &Book<'_>, ticket: &Ticket, run: &mut Run<'_>)
 
 fn look(rt: &impl Abort, alloc: Global, set: &ProgramSet) {
     let (mut book, ticket, mut run) = begun(rt, alloc, set, LOOK, &[1]);
-    let read = advance(rt, &book, &ticket, &mut run);
+    let read = advance(rt, &mut book, &ticket, &mut run);
     assert!(rt; read == Next::Did(Deed::Read(cell(0, 1), None)));
-    let Next::Done(End::Ready) = advance(rt, &book, &ticket, &mut run) else {
+    let Next::Done(End::Ready) = advance(rt, &mut book, &ticket, &mut run) else {
         panic!(rt; "the run is not ready")
     };
     let receipt = book.commit_own(&ticket, &run).expect(rt, "a commit");
@@ -63,7 +63,7 @@ fn a_run_that_is_ready_commits_its_instance(rt: HostRuntime) -> Result<(), Fail>
 
 fn stop(rt: &impl Abort, alloc: Global, set: &ProgramSet) {
     let (mut book, ticket, mut run) = begun(rt, alloc, set, STOP, &[]);
-    let Next::Done(End::Aborted(_)) = advance(rt, &book, &ticket, &mut run) else {
+    let Next::Done(End::Aborted(_)) = advance(rt, &mut book, &ticket, &mut run) else {
         panic!(rt; "the run has not aborted")
     };
     book.end_own(&ticket, &run).expect(rt, "memory");

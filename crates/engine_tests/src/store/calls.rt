@@ -1,7 +1,7 @@
 //! Calls of a store and their answers, as plain data.
 
 use crate::store::twin::{Deed, cell, changes};
-use prog_tree::{Cell, Region, RisingCells, Rows};
+use prog_tree::{Cell, Region, RisingCells, RowPieces, Rows, Sequence};
 use std::alloc::{AllocError, Global};
 use std::process::Abort;
 use version_store::{Clash, Store};
@@ -104,7 +104,9 @@ fn are_held(
         return Answer::OutOfReach;
     }
     let own = alone(alloc, own).expect(rt, "memory");
-    Answer::Is(store.are_held(start, &FIRST_THREE, &own, rows))
+    let list = Sequence::from_slice(alloc, rows).expect(rt, "memory");
+    let rows = RowPieces::from_list(list).expect(rt, "memory");
+    Answer::Is(store.are_held(start, &FIRST_THREE, &own, &rows))
 }
 
 fn make(rt: &impl Abort, alloc: Global, store: &mut Store, call: &Call) -> Answer {

@@ -14,7 +14,7 @@ use crate::book::Book;
 use crate::instances::row::HistoryRow;
 use crate::instances::ticket::Ticket;
 use prog_run::{AnswerFault, Next, Run, RunFault};
-use prog_tree::{Region, SharedRows};
+use prog_tree::{Region, RowPieces};
 use std::alloc::AllocError;
 
 // An answer that fits the question is refused for want of memory alone.
@@ -33,7 +33,7 @@ fn next_of_answer(answer: Result<Next, AnswerFault>) -> Result<Next, AllocError>
 impl<'a> Book<'a> {
     // The rows of a region after the first `start` commits. A look that is at once repeated is not
     // read again, and shares its rows.
-    fn rows_for(&self, start: u64, run: &Run<'_>, region: &Region) -> Result<SharedRows, AllocError>
+    fn rows_for(&self, start: u64, run: &Run<'_>, region: &Region) -> Result<RowPieces, AllocError>
         requires above { self.now.floor ≤ start }
         requires within { start ≤ length self.now.rows }
         requires found { AreFound (state_in self.now start) run.now.looks }
@@ -41,10 +41,7 @@ impl<'a> Book<'a> {
     {
         match run.rows_again(region) {
             Some(rows) => rows.share(),
-            None => {
-                let rows = self.rows_in(start, region)?;
-                SharedRows::new(rows)
-            }
+            None => self.pieces_in(start, region),
         }
     }
 
@@ -82,17 +79,35 @@ impl<'a> Book<'a> {
         self.commits();
     }
 
+    // Makes ready for a scan of a region, but for one that the run's last look has done.
+    fn prepare(&mut self, start: u64, run: &Run<'_>, region: &Region)
+        ensures { self.new ≡ self.old }
+    {
+        if run.rows_again(region).is_none() {
+            self.store.prepare(start, region);
+        }
+    }
+
     /// The next store statement of a run, or its end. What it asks for is read in the book, as the
-    /// ticket's instance sees it.
-    pub fn advance(&self, ticket: &Ticket, run: &mut Run<'_>) -> Result<Next, AllocError>
-        requires active { IsSome (active_at self.now ticket.now) }
-        requires found { AreFound (state_in self.now ticket.now.start) run.old.looks }
+    /// ticket's instance sees it; a region is made ready before.
+    pub fn advance(&mut self, ticket: &Ticket, run: &mut Run<'_>) -> Result<Next, AllocError>
+        requires active { IsSome (active_at self.old ticket.now) }
+        requires found { AreFound (state_in self.old ticket.now.start) run.old.looks }
         ensures ok { IfOk result (λ next. StepsTo next run.old run.new) }
-        ensures own { StaysOwn (state_in self.now ticket.now.start) run.old run.new }
+        ensures own { StaysOwn (state_in self.old ticket.now.start) run.old run.new }
         ensures err { OnErr result (StopsShort run.old run.new) }
+        ensures same { self.new ≡ self.old }
     {
         self.read_start(ticket);
-        self.advance_at(ticket.start(), run)
+        let start = ticket.start();
+        match run.advance()? {
+            Next::Get(_) => self.advance_at(start, run),
+            Next::Scan(region) => {
+                self.prepare(start, run, &region);
+                self.advance_at(start, run)
+            }
+            next => Ok(next),
+        }
     }
 
     // Goes on with a run to its end.

@@ -19,7 +19,7 @@ use crate::instances::active::Active;
 use crate::instances::row::{HistoryRow, same_numbers};
 use crate::instances::ticket::Ticket;
 use prog_run::Run;
-use prog_tree::{Cell, Changes, Look, Region, RisingCells, Sequence, same_tables};
+use prog_tree::{Cell, Changes, Look, Region, RisingCells, RowPieces, Sequence, same_tables};
 use std::alloc::{AllocError, Global};
 use version_store::Clash;
 
@@ -69,6 +69,15 @@ impl<'a> Book<'a> {
         self.store.scan(start, region)
     }
 
+    /// The same in pieces.
+    pub(crate) fn pieces_in(&self, start: u64, region: &Region) -> Result<RowPieces, AllocError>
+        requires above { self.now.floor ≤ start }
+        requires within { start ≤ length self.now.rows }
+        ensures { IfOk result (λ rows. rows ≡ rows_in region.now (state_in self.now start)) }
+    {
+        self.store.scan_pieces(start, region)
+    }
+
     /// The clash of what an instance changes and keeps with the commits above its start.
     pub(crate) fn clash(&self, start: u64, changes: &Changes) -> Option<Clash>
         requires above { self.now.floor ≤ start }
@@ -80,7 +89,7 @@ impl<'a> Book<'a> {
 
     // Whether some rows are those of a region after the first `start` commits, but for those of
     // some `own` cells.
-    fn are_held(&self, start: u64, region: &Region, own: &RisingCells, rows: &[(Cell, i64)]) -> bool
+    fn are_held(&self, start: u64, region: &Region, own: &RisingCells, rows: &RowPieces) -> bool
         requires above { self.now.floor ≤ start }
         requires within { start ≤ length self.now.rows }
         ensures { IsTrue result
@@ -97,9 +106,7 @@ impl<'a> Book<'a> {
     {
         match look {
             Look::One(cell, held) => self.row_at(start, cell) == *held,
-            Look::Range { region, own, rows } => {
-                self.are_held(start, region, own, rows.as_slice())
-            }
+            Look::Range { region, own, rows } => self.are_held(start, region, own, rows),
         }
     }
 

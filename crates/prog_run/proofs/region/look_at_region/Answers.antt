@@ -27,7 +27,7 @@ merge-requires-clause-absent c =
     let cells = c.args.changes.now.cells in
     let mine : c.from_vec-left_out.result ≡ own_cells c.args.region cells =
     c.from_vec-left_out.ensures ∙ c.in_ok-own_cells.ensures ∙ ap (λ (es : ChangedCells). cells_of es) (c.deref.ensures.value ∙ c.in_ok-own.ensures.own) in
-    let left = c.deref-2.ensures.value ∙ c.in_ok-left.ensures ∙ (λ i. rows_without (mine i) (c.as_slice.ensures i)) in
+    let left = c.deref-2.ensures.value ∙ c.in_ok-left.ensures ∙ (λ i. rows_without (mine i) c.args.rows) in
     let own = c.deref-3.ensures.value ∙ c.in_ok-own.ensures.own in
     subst (λ (rows : TableState). AreAbsent rows c.deref-3.result.now) (sym left)
     (subst (λ (es : ChangedCells). AreAbsent (rows_without (own_cells c.args.region cells) c.args.rows) es) (sym own) (own_absent c.args.rows (changes_in c.args.region cells)))
@@ -36,7 +36,7 @@ pub returns-clause-look : goal.returns-clause-look
 returns-clause-look c =
     let cells = c.args.changes.now.cells in
     let told : c.from_vec-left_out.result ≡ own_cells c.args.region cells = c.from_vec-left_out.ensures ∙ c.in_ok-own_cells.ensures ∙ ap (λ (es : ChangedCells). cells_of es) (c.deref.ensures.value ∙ c.in_ok-own.ensures.own) in
-    let left = c.in_ok-rows.ensures ∙ c.from_vec.ensures ∙ c.in_ok-left.ensures ∙ (λ i. rows_without (told i) (c.as_slice.ensures i)) in
+    let left = c.in_ok-rows.ensures ∙ c.from_vec.ensures ∙ c.in_ok-left.ensures ∙ (λ i. rows_without (told i) c.args.rows) in
     λ i. look.Range c.args.region (told i) (left i)
 
 pub returns-clause-seen : goal.returns-clause-seen
@@ -44,9 +44,9 @@ returns-clause-seen c =
     let cells = c.args.changes.now.cells in
     let mine : c.from_vec-left_out.result ≡ own_cells c.args.region cells =
     c.from_vec-left_out.ensures ∙ c.in_ok-own_cells.ensures ∙ ap (λ (es : ChangedCells). cells_of es) (c.deref.ensures.value ∙ c.in_ok-own.ensures.own) in
-    let left = c.deref-2.ensures.value ∙ c.in_ok-left.ensures ∙ (λ i. rows_without (mine i) (c.as_slice.ensures i)) in
+    let left = c.deref-2.ensures.value ∙ c.in_ok-left.ensures ∙ (λ i. rows_without (mine i) c.args.rows) in
     let own = c.deref-3.ensures.value ∙ c.in_ok-own.ensures.own in
-    c.from_vec-2.ensures ∙ c.in_ok-seen.ensures ∙ (λ i. changed (left i) (own i))
+    c.in_ok-changed.ensures ∙ c.from_vec-2.ensures ∙ c.in_ok-seen.ensures ∙ (λ i. changed (left i) (own i))
 
 pub returns-then-is_empty-clause-look : goal.returns-then-is_empty-clause-look
 returns-then-is_empty-clause-look c =

@@ -1,6 +1,7 @@
 use Rattle.std.proofs.Common.{◌≡◌, ℕ, subst, sym}
 use Rattle.prog_run.specs.Looks.{AreFound}
-use Rattle.history_book.specs.View.{state_in}
+use Rattle.history_book.specs.Refusals.{IsOfInstance}
+use Rattle.history_book.specs.View.{BookView, state_in}
 use Rattle.history_book.proofs.ActiveLaws.{with_start-is}
 use Rattle.engine_tests.proofs.OwnRuns.{stays_own}
 use Rattle.engine_tests.proofs.book.own_tests.advance.Goals as goal
@@ -17,4 +18,4 @@ returns-clause-own g c =
     let new = c.advance.new.run in
     let starts : own.instance.start ≡ c.args.ticket.now.start = (with_start-is c.args.ticket.now.start _ own.instance own.active).1 in
     let found = subst (λ (n : ℕ). AreFound (state_in c.args.book.now n) new.looks) (sym starts) c.advance.ensures.own.found in
-    stays_own c.args.book.now c.args.ticket.now c.args.run.now new own c.advance.ensures.own.same found
+    subst (λ (v : BookView). IsOfInstance v c.args.ticket.now new) (sym c.advance.ensures.same) (stays_own c.args.book.now c.args.ticket.now c.args.run.now new own c.advance.ensures.own.same found)

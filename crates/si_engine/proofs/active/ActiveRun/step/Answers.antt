@@ -5,7 +5,7 @@ use Rattle.prog_tree.specs.declared.deed.End.TheVariants.{Ready, Aborted}
 use Rattle.prog_run.specs.declared.next.Next.TheVariants.{Done}
 use Rattle.prog_run.specs.Step.{deeds_after, end_after}
 use Rattle.prog_run.specs.View.{RunView}
-use Rattle.si_engine.specs.View.{instance_in, active_in, IsHeld}
+use Rattle.si_engine.specs.View.{instance_in, active_in, IsActive, IsHeld}
 use Rattle.si_engine.specs.declared.active.ActiveRun.{ActiveRun}
 use Rattle.si_engine.specs.declared.event.Reply.TheVariants as reply
 use Rattle.si_engine.proofs.HeldLaws.{instance_stays, did_step, did_held, ready_step, aborted_step, aborted_held, active_stays}
@@ -22,7 +22,8 @@ end-requires-clause-active c =
     let next = aborted.field-0-is ∙ ap Done aborted.field-0-0-is in
     let over : run.end ≡ Some (Aborted aborted.cause) = aborted.ensures.ok.end ∙ ap end_after next in
     let held = aborted_held v a _ run was c.requires.held own aborted.cause over in
-    active_stays v a (record a { run = with_value a.run run }) c.requires refl (instance_stays v a _ run was c.requires.held own) held
+    subst (λ b. IsActive b (record a { run = with_value a.run run })) (sym c.advance.ensures.same)
+    (active_stays v a (record a { run = with_value a.run run }) c.requires refl (instance_stays v a _ run was c.requires.held own) held)
 
 pub returns-in-Ok-Did : goal.returns-in-Ok-Did
 returns-in-Ok-Did c =
@@ -35,7 +36,7 @@ returns-in-Ok-Did c =
     let more = did.ensures.ok.deeds ∙ (λ j. deeds_after (did.field-0-is j) (was j).deeds) in
     record {
       step = did_step v a _ run was c.requires.held own did.deed more;
-      after = (refl, did_held v a _ run was c.requires.held own did.deed more, instance_stays v a _ run was c.requires.held own);
+      after = (c.advance.ensures.same, did_held v a _ run was c.requires.held own did.deed more, instance_stays v a _ run was c.requires.held own);
       err = search rules;
     }
 
@@ -77,4 +78,4 @@ returns-in-Err-end-clause-after c =
     let held : IsHeld v a.ticket.number b = aborted_held v a _ run was c.requires.held own aborted.cause over in
     let same = instance_stays v a _ run was c.requires.held own in
     let back : c.in-Err-end.back ≡ b = c.in-Err-end.ensures.err in
-    (c.in-Err-end.ensures.err_book, subst (IsHeld v a.ticket.number) (sym back) held, ap instance_in back ∙ same)
+    (c.in-Err-end.ensures.err_book ∙ c.advance.ensures.same, subst (IsHeld v a.ticket.number) (sym back) held, ap instance_in back ∙ same)

@@ -1,5 +1,6 @@
 use Rattle.std.proofs.Common.{◌≡◌, ◌∙◌, ◌+◌, take, length, refl, ap}
 use Rattle.version_store.proofs.StandsLaws.{stands-push, stands-kept}
+use Rattle.version_store.proofs.EndLaws.{true_behind}
 use Rattle.version_store.proofs.store.Store.install.Goals as goal
 
 pub returns-in_default-add_commit-clause-err_stands : goal.returns-in_default-add_commit-clause-err_stands
@@ -14,3 +15,8 @@ returns-clause-stands c =
     let versions = sum ∙ ap (λ n. c.self.inside.versions + n) count in
     rw (← c.self.view_is) (λ opening ws stands.
     stands-push _ _ opening ws c.args.changes.now stands c.iter.ensures.ordered c.in-Ok.ensures.ok c.add_commit.ensures.hold c.in_ok-add.ensures.ok refl refl versions)
+
+pub invariant_of-self-2 : goal.invariant_of-self-2
+invariant_of-self-2 c = λ rise.
+    true_behind _ c.args.changes.now c.self.inside.chains c.add_commit.new.self c.end_changed.new.self c.in-Ok.ensures.ok c.end_changed.ensures.ended
+    (λ rose. c.end_changed.ensures.stays _ (c.self.invariant rose)) rise

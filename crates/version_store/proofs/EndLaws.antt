@@ -1,0 +1,113 @@
+-- What blocks go on saying behind a commit.
+use Rattle.std.proofs.Common.{◌≡◌, ◌∙◌, ℕ, ◌+◌, ◌<◌, ◌≤◌, ◌⊎◌, inl, inr, Bool, true, false, cond, if◌then◌else◌, List, [], ◌∷◌, ◌++◌, refl, ap, sym, subst, arith}
+use Rattle.std.specs.Prelude.{ℤ, Option, Some, None, IfSome, is_some}
+use Rattle.std.proofs.lemmas.Bool.{lt-leb}
+use Rattle.prog_tree.specs.declared.cell.Cell.{Cell}
+use Rattle.prog_tree.specs.declared.cell.Region.{Region}
+use Rattle.prog_tree.specs.ChangeSet.{ChangeSet, ChangedCells, change_at}
+use Rattle.prog_tree.specs.Table.{Cells, at_cell, is_same_cell, is_cell_among, is_in, row_at, TableState}
+use Rattle.prog_tree.proofs.TableStates.{cell_is}
+use Rattle.version_store.specs.declared.block.Block.{Block}
+use Rattle.version_store.specs.declared.block.Slot.{Slot}
+use Rattle.version_store.specs.Blocks.{IsTrueBlock, IsTrueSlot, IsTrueAt, AreTrue, EndsBefore, AreEnded, AreEndedIn, HasCell}
+use Rattle.version_store.specs.Reading.{AllRise, RisesFrom, chain_at, value_after, value_at, with_commit, with_change_by, with_mark_by, MakesEach}
+use Rattle.version_store.specs.Regions.{seen_in, IsSeen}
+use Rattle.version_store.specs.StandsFor.{Chain}
+use Rattle.version_store.proofs.NewestLaws.{rises_older, value_older}
+
+-- ---- one chain
+
+-- before a commit the versions rose too
+rose : (n : ℕ) (w : ChangeSet) (c : Cell) (chain : Chain) → RisesFrom 0 (with_commit n w c chain).versions → RisesFrom 0 chain.versions
+rose n w c chain = go (change_at w c) (is_cell_among w.kept c)
+  where
+    go : (o : Option (Option ℤ)) (kept : Bool) → RisesFrom 0 (with_mark_by n kept (with_change_by n o chain)).versions → RisesFrom 0 chain.versions
+    go None true h = h
+    go None false h = h
+    go (Some x) true h = rises_older 0 chain.versions ((n, x) ∷ []) h
+    go (Some x) false h = rises_older 0 chain.versions ((n, x) ∷ []) h
+
+all_rose : (n : ℕ) (w : ChangeSet) (before after : Cells Chain) → MakesEach (with_commit n w) before after → AllRise after → AllRise before
+all_rose n w before after made rise c = rose n w c (chain_at before c) (subst (λ (x : Chain). RisesFrom 0 x.versions) (made c) (rise c))
+
+-- below its number a commit changes nothing, and nothing at all where it changes no cell
+value_stays : (n : ℕ) (w : ChangeSet) (c : Cell) (chain : Chain) (m : ℕ) → (is_some (change_at w c) ≡ true → m < n) → value_at m chain ≡ value_at m (with_commit n w c chain)
+value_stays n w c chain m below = go (change_at w c) (is_cell_among w.kept c) below
+  where
+    go : (o : Option (Option ℤ)) (kept : Bool) → (is_some o ≡ true → m < n) → value_at m chain ≡ value_at m (with_mark_by n kept (with_change_by n o chain))
+    go None true below = refl
+    go None false below = refl
+    go (Some x) true below = value_older m chain.versions (n, x) (lt-leb n m (below refl))
+    go (Some x) false below = value_older m chain.versions (n, x) (lt-leb n m (below refl))
+
+-- ---- blocks
+
+block_stays :
+    (n : ℕ) (w : ChangeSet) (before after : Cells Chain) (region : Region) (block : Block) → MakesEach (with_commit n w) before after →
+    ((c : Cell) → is_some (change_at w c) ≡ true → is_in region c ≡ true → block.till ≤ n) → IsTrueBlock before region block → IsTrueBlock after region block
+block_stays n w before after region block made ends holds m since below = (seen.0, λ c. seen.1 c ∙ go c (is_in region c) refl)
+  where
+    seen : IsSeen (seen_in region m) before block.rows
+    seen = holds m since below
+
+    go : (c : Cell) (b : Bool) → is_in region c ≡ b → (if b then value_at m (chain_at before c) else None) ≡ (if b then value_at m (chain_at after c) else None)
+    go c true inside =
+        value_stays n w c (chain_at before c) m (λ changed. let end = ends c changed inside in omega (arith, end, below))
+        ∙ ap (value_at m) (sym (made c))
+    go c false outside = refl
+
+slot_stays :
+    (n : ℕ) (w : ChangeSet) (before after : Cells Chain) (slot : Slot) → MakesEach (with_commit n w) before after →
+    ((c : Cell) → is_some (change_at w c) ≡ true → is_in slot.region c ≡ true → EndsBefore n slot) → IsTrueSlot before slot → IsTrueSlot after slot
+slot_stays n w before after slot made ends holds = (
+  block_stays n w before after slot.region slot.newest made (λ c changed inside. (ends c changed inside).0) holds.0,
+  go slot.older (λ c changed inside. (ends c changed inside).1) holds.1,
+)
+  where
+    go : (o : Option Block) → ((c : Cell) → is_some (change_at w c) ≡ true → is_in slot.region c ≡ true → IfSome o (λ (block : Block). block.till ≤ n)) →
+        IfSome o (IsTrueBlock before slot.region) → IfSome o (IsTrueBlock after slot.region)
+    go None ends holds = tt
+    go (Some block) ends holds = block_stays n w before after slot.region block made ends holds
+
+-- blocks that are true before a commit, and end before it where it changes a cell, are true behind it
+pub true_behind :
+    (n : ℕ) (w : ChangeSet) (before after : Cells Chain) (slots : Cells Slot) → MakesEach (with_commit n w) before after →
+    ((c : Cell) → is_some (change_at w c) ≡ true → AreEnded n c slots) → (AllRise before → AreTrue before slots) → AllRise after → AreTrue after slots
+true_behind n w before after slots made ends holds rise key = go (at_cell slots key) refl (holds (all_rose n w before after made rise) key)
+  where
+    go : (o : Option Slot) → at_cell slots key ≡ o → IsTrueAt before o → IsTrueAt after o
+    go None e h = tt
+    go (Some slot) e h = slot_stays n w before after slot made (λ c changed inside. ends c changed key slot e inside) h
+
+-- ---- the cells that are gone over
+
+-- each changed cell that is not left has its blocks ended
+abbrev pub EndsGone : (n : ℕ) → ChangedCells → (left : ChangedCells) → Cells Slot → Type 0
+EndsGone n cells left slots = (c : Cell) → is_some (at_cell cells c) ≡ true → is_some (at_cell left c) ≡ false → AreEnded n c slots
+
+pub gone_first : (n : ℕ) (cells left : ChangedCells) (slots : Cells Slot) → left ≡ cells → EndsGone n cells left slots
+gone_first n cells left slots is c some none = let clash : true ≡ false = sym some ∙ ap (λ (es : ChangedCells). is_some (at_cell es c)) (sym is) ∙ none in absurd (cc)
+
+pub gone_more :
+    (n : ℕ) (cells left rest : ChangedCells) (k : Cell) (x : Option ℤ) (old new : Cells Slot) → left ≡ (k, x) ∷ rest → EndsGone n cells left old →
+    AreEnded n k new → ((c : Cell) → AreEnded n c old → AreEnded n c new) → EndsGone n cells rest new
+gone_more n cells left rest k x old new is so_far here others c some none = go (is_same_cell c k) refl
+  where
+    go : (b : Bool) → is_same_cell c k ≡ b → AreEnded n c new
+    go true same = subst (λ (d : Cell). AreEnded n d new) (sym (cell_is c k same)) here
+    go false apart = others c (so_far c some (ap (λ (es : ChangedCells). is_some (at_cell es c)) is ∙ ap (λ b. is_some (cond b (Some x) (at_cell rest c))) apart ∙ none))
+
+pub gone_all : (n : ℕ) (cells left : ChangedCells) (slots : Cells Slot) → left ≡ [] → EndsGone n cells left slots → (c : Cell) → is_some (at_cell cells c) ≡ true → AreEnded n c slots
+gone_all n cells left slots none h c some = h c some (ap (λ (es : ChangedCells). is_some (at_cell es c)) none)
+
+-- in the region of a slot that was ended each cell has its blocks ended
+pub done_ends : (n : ℕ) (done : Option Region) (slots : Cells Slot) (c : Cell) → IfSome done (λ (region : Region). AreEndedIn n region slots) → HasCell done c → AreEnded n c slots
+done_ends n None slots c ended has = absurd has
+done_ends n (Some region) slots c ended has = ended c has
+
+-- where there are no slots, none has a cell
+pub none_ended : (n : ℕ) (c : Cell) (slots : Cells Slot) → slots ≡ [] → AreEnded n c slots
+none_ended n c slots none key slot at inside = let never : None ≡ Some slot = sym (ap (λ (es : Cells Slot). at_cell es key) none) ∙ at in absurd (cc)
+
+pub none_true : (chains : Cells Chain) (slots : Cells Slot) → slots ≡ [] → AreTrue chains slots
+none_true chains slots none key = subst (λ (es : Cells Slot). IsTrueAt chains (at_cell es key)) (sym none) tt

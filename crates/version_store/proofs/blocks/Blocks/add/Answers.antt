@@ -1,0 +1,39 @@
+use Rattle.std.proofs.Common.{◌≡◌, subst, sym}
+use Rattle.std.specs.Prelude.{Option, IfSome, IsSome}
+use Rattle.std.specs.BTreeMap.{BTreeMap}
+use Rattle.prog_tree.specs.declared.cell.Cell.{Cell}
+use Rattle.prog_tree.specs.declared.cell.Region.{Region}
+use Rattle.prog_tree.specs.Table.{at_cell}
+use Rattle.version_store.specs.declared.block.Slot.{Slot}
+use Rattle.version_store.specs.Blocks.{AreApart, HasSlot, IsTrueBlock}
+use Rattle.version_store.proofs.ApartLaws.{apart_put}
+use Rattle.version_store.proofs.BlockLaws.{put_found, put_true, found_true}
+use Rattle.version_store.proofs.blocks.Blocks.add.Goals as goal
+
+pub invariant_of-self : goal.invariant_of-self
+invariant_of-self c = subst (λ (after : BTreeMap Cell Slot). AreApart after.entries) (sym c.get_mut.follows.holds-at-none) c.self.invariant
+
+pub invariant_of-self-2 : goal.invariant_of-self-2
+invariant_of-self-2 c =
+    let m = c.self.inside.slots.entries in
+    let slot = c.add.new.self in
+    let written = λ (some : IsSome (at_cell m c.args.key.now)). ((c.get_mut.follows.holds slot).3 some).0 in
+    let n = (c.get_mut.follows.lender slot).entries in
+    apart_put m n c.args.key.now c.in-Some.slot.now slot c.in-Some.ensures.value c.add.ensures.region
+    (put_found m n c.args.key.now c.in-Some.slot.now slot c.in-Some.ensures.value written) c.self.invariant
+
+pub returns : goal.returns
+returns c =
+    let m = c.self.inside.slots.entries in
+    let key = c.args.key.now in
+    let old = c.in-Some.slot.now in
+    let slot = c.add.new.self in
+    let written = λ (some : IsSome (at_cell m key)). ((c.get_mut.follows.holds slot).3 some).0 in
+    let n = (c.get_mut.follows.lender slot).entries in
+    let put = put_found m n key old slot c.in-Some.ensures.value written in
+    let held = c.has_slot.ensures c.if-not-has_slot.false in
+    let has = rw (← c.self.view_is) at held in
+    let region : old.region ≡ c.args.region.now = subst (λ (o : Option Slot). IfSome o (λ (s : Slot). s.region ≡ c.args.region.now)) (sym c.in-Some.ensures.value) has in
+    rw (← c.self.view_is) (λ chains fresh all.
+    put_true chains m n key slot
+    (c.add.ensures.true_slot chains (subst (λ (r : Region). IsTrueBlock chains r c.args.block) (sym region) fresh) (found_true chains m key old c.in-Some.ensures.value all)) put all)

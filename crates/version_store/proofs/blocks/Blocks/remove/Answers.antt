@@ -1,0 +1,9 @@
+use Rattle.version_store.proofs.ApartLaws.{apart_taken}
+use Rattle.version_store.proofs.BlockLaws.{taken_true}
+use Rattle.version_store.proofs.blocks.Blocks.remove.Goals as goal
+
+pub invariant_of-self : goal.invariant_of-self
+invariant_of-self c = apart_taken c.self.inside.slots.entries c.remove.new.self.entries c.args.key.now c.remove.ensures.updates.0 c.self.invariant
+
+pub returns : goal.returns
+returns c = rw (← c.self.view_is) (λ chains all. taken_true chains c.self.inside.slots.entries c.remove.new.self.entries c.args.key.now c.remove.ensures.updates.0 all)

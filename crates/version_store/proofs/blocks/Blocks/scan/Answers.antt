@@ -1,0 +1,66 @@
+use Rattle.std.proofs.Common.{◌≡◌, ◌∙◌, refl, ap, subst, sym}
+use Rattle.std.specs.Prelude.{filter}
+use Rattle.std.proofs.lemmas.Result.{IfOk-weaker}
+use Rattle.prog_tree.specs.declared.cell.Cell.{Cell}
+use Rattle.prog_tree.specs.declared.cell.Region.{Region}
+use Rattle.prog_tree.specs.Corners.{is_between}
+use Rattle.prog_tree.specs.Pieces.{rows_of}
+use Rattle.prog_tree.specs.Table.{TableState}
+use Rattle.version_store.specs.declared.block.Slot.{Slot}
+use Rattle.version_store.specs.Regions.{seen_in, IsSeen}
+use Rattle.version_store.proofs.BlockLaws.{found_true}
+use Rattle.version_store.proofs.ShareLaws.{left_first, left_here, left_more, none_seen, shares_more, shared}
+use Rattle.version_store.proofs.blocks.Blocks.scan.Goals as goal
+
+pub returns-in_default : goal.returns-in_default
+returns-in_default c =
+    IfOk-weaker c.from_pieces.result _ _
+    (λ rows is rise holds. none_seen c.args.region.now c.args.start c.args.chains.now c.in_default.ensures rows (is ∙ ap rows_of c.new-pieces.ensures.items))
+    c.from_pieces.ensures
+
+pub loop-slot-init : goal.loop-slot-init
+loop-slot-init c =
+    let slots = c.self.inside.slots.entries in
+    let ends = c.new.ensures in
+    let between : c.into_iter-slot-iterator.result ≡ filter (λ (e : Cell × Slot). is_between c.in-Some.low c.in-Some.high e.0) slots =
+    c.into_iter-slot-iterator.ensures.into_iter_gives ∙ c.range-slot-items.ensures.between ends.exhausted
+    ∙ (λ i. filter (λ (e : Cell × Slot). is_between (ends.start i) (ends.end i) e.0) slots) in
+    rw (← c.self.view_is, c.new-pieces.ensures.items) (record {
+      among = left_first (is_between c.in-Some.low c.in-Some.high) slots c.into_iter-slot-iterator.result c.range-slot-items.ensures.ordered between;
+      shares = λ rise holds. refl;
+    })
+
+pub loop-slot-preserved-in-Some-rows_inside : goal.loop-slot-preserved-in-Some-rows_inside
+loop-slot-preserved-in-Some-rows_inside c =
+    let slots = c.args.self.now in
+    let chains = c.args.chains.now in
+    let start = c.args.start in
+    let slot = c.in-Some-2.slot.now in
+    let key = c.in-Some-2.field-0-0.now in
+    let among = c.loop-slot.invariant.among in
+    let steps = c.in-Some-2.ensures.steps in
+    rw (c.part_behind-left.ensures, c.in_ok-push.ensures.items, c.in_ok-share.ensures) (record {
+      among = left_more slots c.loop-slot.slot-iterator c.next.new.self key slot steps among;
+      shares = λ rise holds.
+          shares_more c.args.region.now c.loop-slot.left start chains slot c.in-Some-rows_inside.rows.now c.loop-slot.pieces.items c.push_scan.new.pieces.items c.read_order.ensures
+          c.in-Some-rows_inside.ensures.part c.in-Some-rows_inside.ensures.rows
+          (found_true chains slots key slot (sym (left_here slots c.loop-slot.slot-iterator c.next.new.self key slot steps among)) holds)
+          (λ m seen. c.in_ok-push_scan.ensures rise m (subst (λ (r : Region). IsSeen (seen_in r start) chains m) (sym c.part_before-before.ensures) seen))
+          (c.loop-slot.invariant.shares rise holds);
+    })
+
+pub loop-slot-preserved : goal.loop-slot-preserved
+loop-slot-preserved c = record {
+  among = left_more c.args.self.now c.loop-slot.slot-iterator c.next.new.self c.in-Some-2.field-0-0.now c.in-Some-2.slot.now c.in-Some-2.ensures.steps c.loop-slot.invariant.among;
+  shares = c.loop-slot.invariant.shares;
+}
+
+pub returns : goal.returns
+returns c =
+    let chains = c.args.chains.now in
+    IfOk-weaker c.from_pieces-2.result _ _
+    (λ rows is rise holds.
+    subst (λ (m : TableState). IsSeen (seen_in c.args.region.now c.args.start) chains m) (sym is)
+    (shared c.args.region.now c.loop-slot.left c.args.start chains c.loop-slot.pieces.items c.push_scan-2.new.pieces.items c.read_order.ensures
+    (λ m seen. c.in_ok-push_scan-2.ensures rise m seen) (c.loop-slot.invariant.shares rise holds)))
+    c.from_pieces-2.ensures

@@ -1,0 +1,43 @@
+use Rattle.std.proofs.Common.{◌≡◌, ◌∙◌, ◌≤◌, ◌<◌, ◌++◌, ap, subst, sym, arith}
+use Rattle.std.specs.Prelude.{filter}
+use Rattle.std.specs.List.Sorted.{IsStrictlySortedBy}
+use Rattle.prog_tree.specs.declared.cell.Cell.{Cell}
+use Rattle.prog_tree.specs.Table.{cell_cmp, Cells, cells_of, TableState, row_held}
+use Rattle.prog_tree.specs.Corners.{is_between}
+use Rattle.version_store.specs.Regions.{seen_in, seen_between, IsSeen}
+use Rattle.version_store.specs.StandsFor.{Chain}
+use Rattle.version_store.proofs.FoundLaws.{gains_first, gains_more, gained, found_rows}
+use Rattle.version_store.proofs.ShareLaws.{none_seen}
+use Rattle.version_store.proofs.chains.Chains.block_of.Goals as goal
+
+pub returns-in_default : goal.returns-in_default
+returns-in_default c = λ rise n since below. none_seen c.args.region.now n c.args.self.now c.in_default.ensures _ (c.in_ok-block.ensures.rows ∙ c.in_ok-rows.ensures.items)
+
+pub loop-cell-init : goal.loop-cell-init
+loop-cell-init c =
+    let chains = c.self.inside.chains.entries in
+    let ends = c.new.ensures in
+    let between : c.into_iter-cell-iterator.result ≡ filter (λ (e : Cell × Chain). is_between c.in-Some.low c.in-Some.high e.0) chains =
+    c.into_iter-cell-iterator.ensures.into_iter_gives ∙ c.range-cell-items.ensures.between ends.exhausted
+    ∙ (λ i. filter (λ (e : Cell × Chain). is_between (ends.start i) (ends.end i) e.0) chains) in
+    rw (← c.self.view_is, c.in_ok-rows.ensures.items)
+    (λ rise n since below. gains_first c.args.region.now n c.in-Some.low c.in-Some.high chains c.into_iter-cell-iterator.result c.range-cell-items.ensures.ordered rise c.in-Some.ensures between)
+
+pub loop-cell-preserved : goal.loop-cell-preserved
+loop-cell-preserved c = λ rise n since below.
+    let cell = c.in-Some-2.cell.now in
+    let since_before : c.loop-cell.since ≤ n = omega (arith, since, c.max-since.ensures) in
+    let since_here : c.stretch_between-stretch.result.since ≤ n = omega (arith, since, c.max-since.ensures) in
+    let below_before : n < c.loop-cell.till = omega (arith, below, c.min-till.ensures) in
+    let below_here : n < c.stretch_between-stretch.result.till = omega (arith, below, c.min-till.ensures) in
+    gains_more (seen_between c.args.region.now n) (found_rows (seen_in c.args.region.now n) c.args.self.now) c.loop-cell.cell-iterator c.next.new.self cell c.in-Some-2.chain.now c.loop-cell.rows.items c.push_row.new.rows.items
+    c.in-Some-2.ensures.steps (c.loop-cell.invariant rise n since_before below_before)
+    (λ rises. c.in_ok-push_row.ensures ∙ ap (λ o. c.loop-cell.rows.items ++ row_held cell o) (sym (c.stretch_between-stretch.ensures rises n (since_here, below_here))))
+
+pub returns : goal.returns
+returns c = λ rise n since below.
+    let sorted = subst (λ (es : Cells Chain). IsStrictlySortedBy cell_cmp (cells_of es)) c.self.view_is c.range-cell-items.ensures.ordered in
+    let since_walked : c.loop-cell.since ≤ n = omega (arith, since, c.in_ok-block-2.ensures.since) in
+    let below_walked : n < c.loop-cell.till = omega (arith, below, c.in_ok-block-2.ensures.till) in
+    subst (λ (m : TableState). IsSeen (seen_in c.args.region.now n) c.args.self.now m) (sym c.in_ok-block-2.ensures.rows)
+    (gained c.args.region.now n c.args.self.now c.loop-cell.cell-iterator c.loop-cell.rows.items sorted c.in-None.ensures.steps.0 (c.loop-cell.invariant rise n since_walked below_walked))

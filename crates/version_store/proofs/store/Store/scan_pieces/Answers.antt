@@ -1,0 +1,13 @@
+use Rattle.std.proofs.lemmas.Result.{IfOk-weaker}
+use Rattle.version_store.proofs.StandsLaws.{all_rise, scans_state}
+use Rattle.version_store.proofs.store.Store.scan_pieces.Goals as goal
+
+pub returns : goal.returns
+returns c =
+    let above = rw (← c.self.view_is) at c.requires.above in
+    rw (← c.self.view_is) (IfOk-weaker c.scan.result _ _
+    (λ rows seen opening ws stands.
+    let rise = all_rise _ opening ws stands in
+    let is_seen = seen rise (c.self.invariant rise) in
+    scans_state _ opening ws stands c.args.region.now c.args.start above rows is_seen.0 is_seen.1)
+    c.scan.ensures)

@@ -1,0 +1,143 @@
+-- Blocks: the rows of some cells, which scans share.
+use Rattle.std.specs.Prelude.{◌≡◌, ℕ, ◌+◌, ◌<◌, ◌≤◌, ⊤, ℤ, ◌+ℤ◌, ◌-ℤ◌, ◌≤ℤ◌, ◌<ℤ◌, pos, min, true, false, List, Option, Some, None, IfSome, option_map, ◌⊎◌}
+use Rattle.std.specs.Ordering.{is_gt}
+use Rattle.std.specs.declared.cmp.Ordering.TheVariants.{Less}
+use Rattle.prog_tree.specs.declared.cell.Cell.{Cell}
+use Rattle.prog_tree.specs.declared.cell.Region.{Region}
+use Rattle.prog_tree.specs.Number.{least, greatest}
+use Rattle.prog_tree.specs.Table.{cell_cmp, is_in, Cells, at_cell, TableState}
+use Rattle.version_store.specs.declared.block.Block.{Block}
+use Rattle.version_store.specs.declared.block.Slot.{Slot}
+use Rattle.version_store.specs.declared.stretch.Stretch.{Stretch}
+use Rattle.version_store.specs.StandsFor.{Chain}
+use Rattle.version_store.specs.Reading.{value_after}
+use Rattle.version_store.specs.Regions.{seen_in, seen_between, IsSeen}
+
+-- ---- how long a cell holds what it holds
+
+-- n lies in a stretch
+abbrev pub InStretch : Stretch → ℕ → Type 0
+InStretch stretch n = (stretch.since ≤ n) × (n < stretch.till)
+
+-- versions hold the value of a stretch after each number of commits in it
+abbrev pub HoldsIn : Stretch → List (ℕ × Option ℤ) → Type 0
+HoldsIn stretch vs = (n : ℕ) → InStretch stretch n → value_after n None vs ≡ stretch.value
+
+-- between its corners a region has the value of a stretch of a cell with a chain after each number of commits in it
+abbrev pub SeesIn : Region → Stretch → Cell → Chain → Type 0
+SeesIn region stretch c chain = (n : ℕ) → InStretch stretch n → seen_between region n c chain ≡ stretch.value
+
+-- ---- what blocks say of chains
+
+-- a block has the rows of a region after each number of commits from `since` on and below `till`
+abbrev pub IsTrueBlock : Cells Chain → Region → Block → Type 0
+IsTrueBlock chains region block =
+    (n : ℕ) → block.since ≤ n → n < block.till → IsSeen (seen_in region n) chains block.rows
+
+-- so has each block of a slot
+abbrev pub IsTrueSlot : Cells Chain → Slot → Type 0
+IsTrueSlot chains slot =
+    IsTrueBlock chains slot.region slot.newest × IfSome slot.older (IsTrueBlock chains slot.region)
+
+-- so has a slot, where there is one
+abbrev pub IsTrueAt : Cells Chain → Option Slot → Type 0
+IsTrueAt chains None = ⊤
+IsTrueAt chains (Some slot) = IsTrueSlot chains slot
+
+-- all slots
+abbrev pub AreTrue : Cells Chain → Cells Slot → Type 0
+AreTrue chains slots = (key : Cell) → IsTrueAt chains (at_cell slots key)
+
+-- what is true of chains stays true
+abbrev pub StaysTrue : Cells Chain → Cells Slot → Cells Slot → Type 0
+StaysTrue chains old new = AreTrue chains old → AreTrue chains new
+
+-- rows are those of an older block after a number of commits, if it is true
+abbrev pub IsOfOlder : (n : ℕ) → Option Block → TableState → Type 0
+IsOfOlder n older rows =
+    (chains : Cells Chain) → (region : Region) → IfSome older (IsTrueBlock chains region) → IsSeen (seen_in region n) chains rows
+
+-- rows are those of a slot after a number of commits, if the slot is true
+abbrev pub IsOfSlot : (n : ℕ) → Slot → TableState → Type 0
+IsOfSlot n slot rows =
+    (chains : Cells Chain) → IsTrueSlot chains slot → IsSeen (seen_in slot.region n) chains rows
+
+-- ---- blocks that end
+
+-- a block without what it says from a commit on
+abbrev pub ended : (number : ℕ) → Block → Block
+ended number block = record block { till = min block.till number }
+
+abbrev pub ended_slot : (number : ℕ) → Slot → Slot
+ended_slot number slot = record slot { newest = ended number slot.newest; older = option_map (ended number) slot.older }
+
+-- no block of a slot says anything from a commit on
+abbrev pub EndsBefore : (number : ℕ) → Slot → Type 0
+EndsBefore number slot = (slot.newest.till ≤ number) × IfSome slot.older (λ block. block.till ≤ number)
+
+-- no block that has a cell says anything from a commit on
+abbrev pub AreEnded : (number : ℕ) → Cell → Cells Slot → Type 0
+AreEnded number c slots =
+    (key : Cell) → (slot : Slot) → at_cell slots key ≡ Some slot → is_in slot.region c ≡ true → EndsBefore number slot
+
+-- the same for each cell of a region
+abbrev pub AreEndedIn : (number : ℕ) → Region → Cells Slot → Type 0
+AreEndedIn number region slots = (c : Cell) → is_in region c ≡ true → AreEnded number c slots
+
+-- a region, if there is one, has a cell
+abbrev pub HasCell : Option Region → Cell → Type 0
+HasCell None c = ⊥
+HasCell (Some region) c = is_in region c ≡ true
+
+-- ---- slots that stand apart
+
+-- no cell of a slot comes behind this one
+abbrev pub EndsAt : Cell → Slot → Type 0
+EndsAt key slot = (c : Cell) → is_in slot.region c ≡ true → is_gt (cell_cmp c key) ≡ false
+
+-- each cell of a slot comes behind this one
+abbrev pub StandsBehind : Cell → Slot → Type 0
+StandsBehind key slot = (c : Cell) → is_in slot.region c ≡ true → cell_cmp key c ≡ Less
+
+-- each slot ends at its key, and stands behind the keys before it
+abbrev pub AreApart : Cells Slot → Type 0
+AreApart slots =
+    (key : Cell) → (slot : Slot) → at_cell slots key ≡ Some slot →
+    EndsAt key slot × ((other : Cell) → (before : Slot) → at_cell slots other ≡ Some before → cell_cmp other key ≡ Less → StandsBehind other slot)
+
+-- the slot of a key is just of a region
+abbrev pub HasSlot : Cells Slot → Cell → Region → Type 0
+HasSlot slots key region = IfSome (at_cell slots key) (λ slot. slot.region ≡ region)
+
+-- a slot that has a cell has this key
+abbrev pub IsKeyOf : Cells Slot → Cell → Option Cell → Type 0
+IsKeyOf slots c found = (key : Cell) → (slot : Slot) → at_cell slots key ≡ Some slot → is_in slot.region c ≡ true → found ≡ Some key
+
+-- each slot has its key before one cell, or stands behind another
+abbrev pub LeavesFree : (low high : Cell) → Cells Slot → Type 0
+LeavesFree low high slots =
+    (key : Cell) → (slot : Slot) → at_cell slots key ≡ Some slot →
+    (cell_cmp key low ≡ Less) ⊎ ((cell_cmp high key ≡ Less) × StandsBehind high slot)
+
+-- ---- parts of a region by its first column
+
+-- the part between two ends
+abbrev pub part_between : Region → (low high : ℤ) → Region
+part_between region low high = record region { first_low = low; first_high = high }
+
+-- the part before a number, and that behind one
+abbrev pub part_before : Region → ℤ → Region
+part_before region low = record region { first_high = low -ℤ pos 1 }
+
+abbrev pub part_behind : Region → ℤ → Region
+part_behind region high = record region { first_low = high +ℤ pos 1 }
+
+-- two ends of a part of a region are in order, and not the least and the greatest i64
+abbrev pub AreEnds : Region → (low high : ℤ) → Type 0
+AreEnds region low high =
+    (region.first_low ≤ℤ low) × (low ≤ℤ high) × (high ≤ℤ region.first_high) × (least <ℤ low) × (high <ℤ greatest)
+
+-- one region is the part of another between such ends
+abbrev pub IsPart : Region → Region → Type 0
+IsPart inner region =
+    (inner ≡ part_between region inner.first_low inner.first_high) × AreEnds region inner.first_low inner.first_high

@@ -1,0 +1,98 @@
+//! Blocks: the rows of some cells, which scans share.
+ghost use Rattle.std.specs.Prelude.{◌≡◌, ◌≤◌, ◌<◌, ℕ, IfSome, IsTrue, option_map};
+ghost use Rattle.prog_tree.specs.Table.{Cells};
+ghost use Rattle.version_store.specs.Blocks.{IsTrueBlock, IsTrueSlot, IsOfOlder, IsOfSlot};
+ghost use Rattle.version_store.specs.Blocks.{ended, ended_slot};
+ghost use Rattle.version_store.specs.StandsFor.{Chain};
+
+use prog_tree::{Piece, Region};
+use std::mem;
+
+/// The rows of some cells, after each number of commits from `since` on and below `till`.
+#[derive(Debug, Drop)]
+pub struct Block {
+    pub since: u64,
+    pub till: u64,
+    pub rows: Piece,
+}
+
+/// The newest block of the cells of a region, and maybe an older one.
+#[derive(Debug, Drop)]
+pub struct Slot {
+    pub region: Region,
+    pub newest: Block,
+    pub older: Option<Block>,
+}
+
+impl Block {
+    // Whether it says what is after the first `start` commits.
+    fn is_of(&self, start: u64) -> bool
+        ensures since { IsTrue result → self.now.since ≤ start }
+        ensures till { IsTrue result → start < self.now.till }
+    {
+        self.since <= start && start < self.till
+    }
+
+    // Says no more what is from a commit on.
+    fn end_at(&mut self, number: u64)
+        ensures { self.new ≡ ended number self.old }
+    {
+        self.till = self.till.min(number);
+    }
+}
+
+// Ends a block, if there is one.
+fn end_older(older: &mut Option<Block>, number: u64)
+    ensures { older.new ≡ option_map (ended number) older.old }
+{
+    if let Some(block) = older {
+        block.end_at(number);
+    }
+}
+
+// The rows of an older block after the first `start` commits, if it has them.
+fn rows_of_older(older: &Option<Block>, start: u64) -> Option<&Piece>
+    ensures { IfSome result (λ rows. IsOfOlder start older.now rows.now) }
+{
+    let block = older.as_ref()?;
+    if block.is_of(start) {
+        Some(&block.rows)
+    } else {
+        None
+    }
+}
+
+impl Slot {
+    /// The rows of its cells after the first `start` commits, if it has them.
+    pub fn rows_at(&self, start: u64) -> Option<&Piece>
+        ensures { IfSome result (λ rows. IsOfSlot start self.now rows.now) }
+    {
+        if self.newest.is_of(start) {
+            return Some(&self.newest.rows);
+        }
+        rows_of_older(&self.older, start)
+    }
+
+    /// Its blocks say no more what is from a commit on.
+    pub fn end_at(&mut self, number: u64)
+        ensures { self.new ≡ ended_slot number self.old }
+    {
+        self.newest.end_at(number);
+        end_older(&mut self.older, number);
+    }
+
+    /// Takes a block of its cells, and keeps the newest of the others.
+    pub fn add(&mut self, block: Block)
+        ensures region { self.new.region ≡ self.old.region }
+        ensures true_slot { (chains : Cells Chain) →
+            IsTrueBlock chains self.old.region block →
+            IsTrueSlot chains self.old → IsTrueSlot chains self.new }
+    {
+        if block.since < self.newest.since {
+            self.older = Some(block);
+            return;
+        }
+        let newest = mem::replace(&mut self.newest, block);
+        self.older = Some(newest);
+    }
+}

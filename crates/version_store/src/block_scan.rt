@@ -1,0 +1,130 @@
+//! Scans that share the rows of blocks.
+ghost use Rattle.std.specs.Prelude.{◌≡◌, ◌++◌, ◌≤◌, ◌<ℤ◌, ℕ, IfOk, IfSome, IsTrue, OnOk};
+ghost use Rattle.prog_tree.specs.Number.{least, greatest};
+ghost use Rattle.prog_tree.specs.Pieces.{rows_of};
+ghost use Rattle.prog_tree.specs.Table.{TableState};
+ghost use Rattle.version_store.specs.Blocks.{AreEnds, AreTrue, IsOfSlot, IsPart};
+ghost use Rattle.version_store.specs.Blocks.{part_before, part_behind, part_between};
+ghost use Rattle.version_store.specs.Reading.{AllRise};
+ghost use Rattle.version_store.specs.Regions.{seen_in, IsSeen};
+
+use crate::block::Slot;
+use crate::blocks::Blocks;
+use crate::chains::Chains;
+use prog_tree::{Piece, Region, RowPieces};
+use std::alloc::{AllocError, Global};
+
+// The part of a region between two ends.
+fn part_between(region: &Region, low: i64, high: i64) -> Region
+    ensures { result ≡ part_between region.now low high }
+{
+    Region {
+        first_low: low,
+        first_high: high,
+        ..*region
+    }
+}
+
+// The part of a region before another one.
+fn part_before(region: &Region, inner: &Region) -> Region
+    requires { least <ℤ inner.now.first_low }
+    ensures { result ≡ part_before region.now inner.now.first_low }
+{
+    Region {
+        first_high: inner.first_low - 1,
+        ..*region
+    }
+}
+
+// The part of a region behind another one.
+fn part_behind(region: &Region, inner: &Region) -> Region
+    requires { inner.now.first_high <ℤ greatest }
+    ensures { result ≡ part_behind region.now inner.now.first_high }
+{
+    Region {
+        first_low: inner.first_high + 1,
+        ..*region
+    }
+}
+
+// Whether some ends of a part of a region are in order, and not the least and the greatest i64.
+fn are_ends(region: &Region, low: i64, high: i64) -> bool
+    ensures { IsTrue result → AreEnds region.now low high }
+{
+    let inside = region.first_low <= low && high <= region.first_high;
+    inside && low <= high && i64::MIN < low && high < i64::MAX
+}
+
+// Whether one region is a part of another.
+fn is_part(inner: &Region, region: &Region) -> bool
+    ensures { IsTrue result → IsPart inner.now region.now }
+{
+    let (low, high) = (inner.first_low, inner.first_high);
+    are_ends(region, low, high) && inner.is_same(&part_between(region, low, high))
+}
+
+impl Slot {
+    // Its rows after the first `start` commits, if it has them and is of a part of a region.
+    fn rows_inside(&self, start: u64, region: &Region) -> Option<&Piece>
+        ensures part { IfSome result (λ rows. IsPart self.now.region region.now) }
+        ensures rows { IfSome result (λ rows. IsOfSlot start self.now rows.now) }
+    {
+        if !is_part(&self.region, region) {
+            return None;
+        }
+        self.rows_at(start)
+    }
+}
+
+// Adds the rows of a region after the first `start` commits, which are read from the chains.
+fn push_scan(
+    pieces: &mut Vec<Piece>,
+    chains: &Chains,
+    start: u64,
+    region: &Region,
+) -> Result<(), AllocError>
+    ensures { OnOk result (AllRise chains.now → (m : TableState) →
+        IsSeen (seen_in region.now start) chains.now m →
+        rows_of pieces.new.items ≡ rows_of pieces.old.items ++ m) }
+{
+    let Some(_) = region.corners() else {
+        return Ok(());
+    };
+    let rows = chains.scan(start, region)?;
+    if !rows.is_empty() {
+        let piece = Piece::new(chains.alloc, rows.into_vec())?;
+        pieces.push(piece)?;
+    }
+    Ok(())
+}
+
+impl Blocks {
+    /// The rows of a region after the first `start` commits: those of blocks are shared, and the
+    /// others read from the chains.
+    pub fn scan(
+        &self,
+        chains: &Chains,
+        start: u64,
+        region: &Region,
+    ) -> Result<RowPieces, AllocError>
+        ensures { IfOk result (λ rows. AllRise chains.now →
+            AreTrue chains.now self.now → IsSeen (seen_in region.now start) chains.now rows) }
+    {
+        chains.read_order();
+        let mut pieces = Vec::new(self.alloc);
+        let Some((low, high)) = region.corners() else {
+            return RowPieces::from_pieces(self.alloc, pieces);
+        };
+        let mut left = *region;
+        for (_, slot) in self.slots.range(low..=high) {
+            if let Some(rows) = slot.rows_inside(start, &left) {
+                let before = part_before(&left, &slot.region);
+                push_scan(&mut pieces, chains, start, &before)?;
+                pieces.push(rows.share()?)?;
+                left = part_behind(&left, &slot.region);
+            }
+        }
+        push_scan(&mut pieces, chains, start, &left)?;
+        RowPieces::from_pieces(self.alloc, pieces)
+    }
+}
