@@ -13,6 +13,7 @@ mod laws;
 mod pending;
 mod rare;
 mod renew;
+mod same_pieces;
 mod scan;
 mod store;
 mod stretch;

@@ -13,6 +13,7 @@ use crate::blocks::Blocks;
 use crate::chains::Chains;
 use crate::clash::{Clash, first_clash};
 use crate::pending::Pending;
+use crate::same_pieces::are_same_pieces;
 use prog_tree::{Cell, Changes, Region, RisingCells, RowPieces, Rows, Sequence};
 use std::alloc::{AllocError, Global};
 use std::marker::Model;
@@ -115,14 +116,31 @@ impl Store {
         self.blocks.scan(&self.chains, start, region)
     }
 
+    // Whether some rows are those of a region after the first `start` commits, cut into the same
+    // pieces as a scan cuts them.
+    fn are_same_pieces(&self, start: u64, region: &Region, rows: &RowPieces) -> bool
+        requires above { self.now.floor ≤ start }
+        requires within { start ≤ self.now.commits }
+        ensures { IsTrue result → InEachHistory self.now (λ opening ws.
+            rows_in region.now (state_at opening ws start) ≡ rows.now) }
+    {
+        match self.scan_pieces(start, region) {
+            Ok(found) => are_same_pieces(found.pieces(), rows.pieces()),
+            Err(_) => false,
+        }
+    }
+
     /// Whether some rows are those of a region after the first `start` commits, but for those of
-    /// some `own` cells.
+    /// some `own` cells. Rows in several pieces are compared with those of blocks first.
     pub fn are_held(&self, start: u64, region: &Region, own: &RisingCells, rows: &RowPieces) -> bool
         requires above { self.now.floor ≤ start }
         requires within { start ≤ self.now.commits }
         ensures { InEachHistory self.now (λ opening ws.
             IsTrue result ↔ (rows_left region.now own.now (state_at opening ws start) ≡ rows.now)) }
     {
+        if own.is_empty() && rows.pieces().len() > 1 && self.are_same_pieces(start, region, rows) {
+            return true;
+        }
         self.chains.are_held(start, region, own, rows)
     }
 

@@ -2,13 +2,13 @@
 
 use crate::store::calls::{install, open};
 use crate::store::twin::{Deed, rows_after};
-use prog_tree::{Cell, Region, RowPieces};
+use prog_tree::{Cell, Region, RisingCells, RowPieces};
 use std::alloc::Global;
 use std::process::Abort;
 use version_store::Store;
 
 /// How many rows there are at first: `t[0] = 0`, `t[2] = 1`, `t[4] = 2` and so on.
-const OPENING_ROWS: u8 = 200;
+const OPENING_ROWS: u32 = 200;
 
 /// Commits that change one block, two of them, none, and one at its seam.
 const COMMITS: [&[Deed]; 5] = [
@@ -24,8 +24,8 @@ const RANGES: [(i64, i64); 4] = [(0, 400), (5, 300), (-50, 1000), (9, 11)];
 
 fn opening_rows(rt: &impl Abort, alloc: Global) -> Vec<(i64, i64)> {
     let mut rows = Vec::new(alloc);
-    for value in 0..OPENING_ROWS {
-        let value = i64::from(value);
+    for number in 0..OPENING_ROWS {
+        let value = i64::from(number);
         rows.push((2 * value, value)).expect(rt, "memory");
     }
     rows
@@ -51,10 +51,12 @@ fn gathered(rt: &impl Abort, alloc: Global, rows: &RowPieces) -> Vec<(Cell, i64)
     gathered
 }
 
-/// The rows of a region after as many commits as the store can tell of.
-fn scan(rt: &impl Abort, store: &Store, start: u64, region: &Region) -> RowPieces {
+/// The rows of a region after as many commits as the store can tell of, which are held then.
+fn scan(rt: &impl Abort, alloc: Global, store: &Store, start: u64, region: &Region) -> RowPieces {
     assert!(rt; store.floor() <= start && start <= store.commits());
-    store.scan_pieces(start, region).expect(rt, "memory")
+    let rows = store.scan_pieces(start, region).expect(rt, "memory");
+    assert!(rt; store.are_held(start, region, &RisingCells::new(alloc), &rows));
+    rows
 }
 
 // Scans after each number of commits so far find the rows of the list.
@@ -67,7 +69,7 @@ fn check_ranges(
 ) {
     for (low, high) in RANGES {
         let rows = rows_after(rt, alloc, opening, commits, low, high);
-        let found = scan(rt, store, commits.len() as u64, &region(low, high));
+        let found = scan(rt, alloc, store, commits.len() as u64, &region(low, high));
         assert!(rt;
             gathered(rt, alloc, &found).as_slice() == rows.as_slice(),
             "{low}..{high} at {}",
@@ -110,7 +112,7 @@ fn shared_rows_are_summed_and_counted(rt: HostRuntime) {
     let mut store = open(&rt, alloc, &opening);
     let region = region(0, 400);
     store.prepare(0, &region);
-    let rows = scan(&rt, &store, 0, &region);
+    let rows = scan(&rt, alloc, &store, 0, &region);
     let again = rows.share().expect(&rt, "memory");
     assert!(&rt; again.total() == 19_900 && again.len() == 200);
     assert!(&rt; again.pieces().len() > 1 && !again.is_empty());

@@ -1,6 +1,8 @@
+use Rattle.std.proofs.Common.{◌≡◌, ◌∙◌, [], refl, sym, subst}
 use Rattle.prog_tree.specs.Evaluation.{rows_left}
+use Rattle.prog_tree.specs.Table.{rows_in}
 use Rattle.version_store.specs.Commits.{state_at}
-use Rattle.version_store.proofs.StandsLaws.{all_rise, sees_left}
+use Rattle.version_store.proofs.StandsLaws.{all_rise, none_left_out, sees_left}
 use Rattle.version_store.proofs.store.Store.are_held.Goals as goal
 
 pub returns : goal.returns
@@ -9,3 +11,10 @@ returns c =
     rw (← c.self.view_is) (λ opening ws stands.
     c.are_held.ensures (all_rise _ opening ws stands) (rows_left c.args.region.now c.args.own.now (state_at opening ws c.args.start))
     (sees_left _ opening ws stands c.args.region.now c.args.own.now c.args.start above))
+
+pub returns-then-are_same_pieces : goal.returns-then-are_same_pieces
+returns-then-are_same_pieces c = λ opening ws stands.
+    let rows = rows_in c.args.region.now (state_at opening ws c.args.start) in
+    let none : c.args.own.now ≡ [] = c.is_empty.ensures.0 c.if-is_empty.true in
+    let same : rows ≡ c.args.rows.now = c.are_same_pieces.ensures c.if-are_same_pieces.true opening ws stands in
+    (λ t. subst (λ own. rows_left c.args.region.now own (state_at opening ws c.args.start) ≡ c.args.rows.now) (sym none) (sym (none_left_out rows) ∙ same), λ e. refl)
