@@ -109,6 +109,7 @@ fn commit_there<'a>(
 ) -> Result<Receipt, CommitFault<'a>>
     ensures { IsCommitAnswer ticket run.entry result }
 {
+    book.prepare_looks(&run);
     book.commit(ticket, run)
 }
 

@@ -96,6 +96,7 @@ impl<'a> Desk<'a> {
     fn commit(&mut self, rt: &impl Abort, set: &'a ProgramSet, ride: &Ride) -> Answer {
         let ticket = self.ticket.take().expect(rt, "a ticket");
         let run = run_of(rt, self.alloc, set, ride);
+        self.book.prepare_looks(&run);
         let (answer, back) = commit(&mut self.book, ticket, run);
         self.ticket = back;
         answer

@@ -14,7 +14,7 @@ use crate::book::Book;
 use crate::instances::row::HistoryRow;
 use crate::instances::ticket::Ticket;
 use prog_run::{AnswerFault, Next, Run, RunFault};
-use prog_tree::{Region, RowPieces};
+use prog_tree::{Look, Region, RowPieces};
 use std::alloc::AllocError;
 
 // An answer that fits the question is refused for want of memory alone.
@@ -85,6 +85,25 @@ impl<'a> Book<'a> {
     {
         if run.rows_again(region).is_none() {
             self.store.prepare(start, region);
+        }
+    }
+
+    // Makes ready for scans of the region of a look after all commits so far, if it has one.
+    fn prepare_look(&mut self, look: &Look)
+        ensures { self.new ≡ self.old }
+    {
+        let commits = self.commits();
+        if let Look::Range { region, .. } = look {
+            self.store.prepare(commits, region);
+        }
+    }
+
+    /// Makes ready for scans of the regions that a run looked at, after all commits so far.
+    pub fn prepare_looks(&mut self, run: &Run<'_>)
+        ensures { self.new ≡ self.old }
+    {
+        for look in run.looks() {
+            self.prepare_look(look);
         }
     }
 
