@@ -7,8 +7,8 @@ use Rattle.prog_tree.specs.declared.look.Look.{Look}
 use Rattle.prog_tree.specs.declared.look.Look.TheVariants as look
 use Rattle.prog_tree.specs.Evaluation.{rows_left}
 use Rattle.prog_tree.specs.Table.{TableState, rows_in}
+use Rattle.prog_tree.proofs.TableStates.{none_left_out}
 use Rattle.prog_run.specs.Looks.{IsFound, AreFound, last_look}
-use Rattle.prog_run.proofs.OwnLemmas.{all_left}
 
 -- where all looks found what a table state holds, one of them did
 pub one_found : (m : TableState) (looks : List Look) (n : ℕ) (l : Look) → slice_get looks n ≡ Some l → AreFound m looks → IsFound m l
@@ -27,4 +27,4 @@ same_look looks looked region own rows last none same =
 pub held_again : (looks : List Look) (region : Region) (rows : TableState) → last_look looks ≡ Some (look.Range region [] rows) → (m : TableState) → AreFound m looks → rows ≡ rows_in region m
 held_again looks region rows last m found =
     let here : rows_left region [] m ≡ rows = one_found m looks (length looks - 1) (look.Range region [] rows) last found in
-    sym here ∙ all_left (rows_in region m)
+    sym here ∙ none_left_out (rows_in region m)

@@ -8,6 +8,7 @@ use Rattle.prog_tree.specs.Corners.{is_between, AreCorners}
 use Rattle.prog_tree.specs.Table.{cells_of, is_in, TableState}
 use Rattle.prog_tree.specs.ChangeSet.{ChangedCells, ChangeSet, changes_between, changes_in, changed}
 use Rattle.prog_tree.specs.Evaluation.{rows_without}
+use Rattle.prog_tree.proofs.TableStates.{none_left_out}
 use Rattle.prog_run.specs.Looks.{region_look, seen_rows}
 
 -- ---- the changes between the corners of a region
@@ -33,16 +34,11 @@ in_between r low high corners (e ∷ es) = go (is_between low high e.0) (is_in r
 
 -- ---- a look at a region in which the run has changed nothing
 
--- without cells of its own all rows are left
-pub all_left : (rows : TableState) → rows_without [] rows ≡ rows
-all_left [] = refl
-all_left (row ∷ rows) = ap (λ m. row ∷ m) (all_left rows)
-
 -- it has all rows
 pub look_of_all : (changes : ChangeSet) (r : Region) (rows : TableState) → changes_in r changes.cells ≡ [] → look.Range r [] rows ≡ region_look changes r rows
 look_of_all changes r rows none =
-    ap (λ m. look.Range r [] m) (sym (all_left rows)) ∙ ap (λ (own : ChangedCells). look.Range r (cells_of own) (rows_without (cells_of own) rows)) (sym none)
+    ap (λ m. look.Range r [] m) (sym (none_left_out rows)) ∙ ap (λ (own : ChangedCells). look.Range r (cells_of own) (rows_without (cells_of own) rows)) (sym none)
 
 -- and the run sees them
 pub all_seen : (changes : ChangeSet) (r : Region) (rows : TableState) → changes_in r changes.cells ≡ [] → rows ≡ seen_rows changes r rows
-all_seen changes r rows none = sym (all_left rows) ∙ ap (λ (own : ChangedCells). changed (rows_without (cells_of own) rows) own) (sym none)
+all_seen changes r rows none = sym (none_left_out rows) ∙ ap (λ (own : ChangedCells). changed (rows_without (cells_of own) rows) own) (sym none)

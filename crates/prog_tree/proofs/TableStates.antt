@@ -12,7 +12,7 @@ use Rattle.std.specs.Ordering.{is_lt, ordering_then}
 use Rattle.prog_tree.specs.declared.cell.Cell.{Cell}
 use Rattle.prog_tree.specs.declared.cell.Region.{Region}
 use Rattle.prog_tree.specs.ChangeSet.{ChangedCells, changed_row, changed}
-use Rattle.prog_tree.specs.Evaluation.{rows_left}
+use Rattle.prog_tree.specs.Evaluation.{rows_left, rows_without}
 use Rattle.prog_tree.specs.Table.{cell_cmp, is_same_cell, is_cell_among, is_in, cells_of, TableState, IsTableState, row_at, with_row, without_row, rows_in}
 use Rattle.prog_tree.proofs.TableLemmas.{cell_total, put_is, find_is}
 
@@ -99,6 +99,11 @@ IsTableState-changed m (e ∷ es) h = IsTableState-changed_row (changed m es) e.
 
 pub IsTableState-rows_in : (r : Region) (m : TableState) → IsTableState m → IsTableState (rows_in r m)
 IsTableState-rows_in r m h = IsTableState-where (is_in r) m h
+
+-- without cells of its own a look leaves out no row
+pub none_left_out : (rows : TableState) → rows_without [] rows ≡ rows
+none_left_out [] = refl
+none_left_out (row ∷ rows) = ap (λ (m : TableState). row ∷ m) (none_left_out rows)
 
 pub IsTableState-rows_left : (r : Region) (own : List Cell) (m : TableState) → IsTableState m → IsTableState (rows_left r own m)
 IsTableState-rows_left r own m h = IsTableState-where (λ d. not (is_cell_among own d)) (rows_in r m) (IsTableState-rows_in r m h)

@@ -5,7 +5,7 @@ use Rattle.std.specs.List.Sorted.{IsStrictlySortedBy}
 use Rattle.prog_tree.specs.declared.cell.Cell.{Cell}
 use Rattle.prog_tree.specs.declared.cell.Region.{Region}
 use Rattle.prog_tree.specs.ChangeSet.{ChangeSet, change_at, changed}
-use Rattle.prog_tree.specs.Evaluation.{rows_left, rows_without}
+use Rattle.prog_tree.specs.Evaluation.{rows_left}
 use Rattle.prog_tree.specs.Table.{cell_cmp, cells_of, is_in, is_cell_among, TableState, IsTableState, row_at, rows_in}
 use Rattle.prog_tree.proofs.TableStates.{IsTableState-changed, IsTableState-rows_in, IsTableState-rows_left, same_state, row_at-where, row_at-rows_left}
 use Rattle.version_store.specs.Clash.{last_touch}
@@ -202,8 +202,3 @@ stands-vacuum s t opening ws g count h rises within_commits sorted sorted_after 
 
     after_size : size t.chains ≡ length (retained opening ws g)
     after_size = size_retained t.chains opening ws g h.ordered h.each sorted_after after
-
--- without own cells no row is left out
-pub none_left_out : (rows : TableState) → rows ≡ rows_without [] rows
-none_left_out [] = refl
-none_left_out (row ∷ rows) = ap (λ (m : TableState). row ∷ m) (none_left_out rows)

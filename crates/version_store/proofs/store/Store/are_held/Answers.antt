@@ -1,8 +1,9 @@
 use Rattle.std.proofs.Common.{◌≡◌, ◌∙◌, [], refl, sym, subst}
 use Rattle.prog_tree.specs.Evaluation.{rows_left}
 use Rattle.prog_tree.specs.Table.{rows_in}
+use Rattle.prog_tree.proofs.TableStates.{none_left_out}
 use Rattle.version_store.specs.Commits.{state_at}
-use Rattle.version_store.proofs.StandsLaws.{all_rise, none_left_out, sees_left}
+use Rattle.version_store.proofs.StandsLaws.{all_rise, sees_left}
 use Rattle.version_store.proofs.store.Store.are_held.Goals as goal
 
 pub returns : goal.returns
@@ -17,4 +18,4 @@ returns-then-are_same_pieces c = λ opening ws stands.
     let rows = rows_in c.args.region.now (state_at opening ws c.args.start) in
     let none : c.args.own.now ≡ [] = c.is_empty.ensures.0 c.if-is_empty.true in
     let same : rows ≡ c.args.rows.now = c.are_same_pieces.ensures c.if-are_same_pieces.true opening ws stands in
-    (λ t. subst (λ own. rows_left c.args.region.now own (state_at opening ws c.args.start) ≡ c.args.rows.now) (sym none) (sym (none_left_out rows) ∙ same), λ e. refl)
+    (λ t. subst (λ own. rows_left c.args.region.now own (state_at opening ws c.args.start) ≡ c.args.rows.now) (sym none) (none_left_out rows ∙ same), λ e. refl)
