@@ -1,23 +1,22 @@
 -- Slots that stand apart.
-use Rattle.std.proofs.Common.{◌≡◌, ◌∙◌, ℕ, ◌⊎◌, inl, inr, Bool, true, false, cond, not, ◌&&◌, List, [], ◌∷◌, refl, ap, sym, subst}
-use Rattle.std.specs.Prelude.{Option, Some, None, IfSome, filter}
+use Rattle.std.proofs.Common.{◌≡◌, ◌∙◌, ℕ, ◌⊎◌, inl, inr, Bool, true, false, not, ◌&&◌, [], refl, ap, sym, subst}
+use Rattle.std.specs.Prelude.{Some, None, filter}
 use Rattle.std.specs.BTreeMap.Range.{range_contains}
 use Rattle.std.specs.Cmp.{first_so}
 use Rattle.std.specs.declared.ops.Bound.TheVariants.{Included, Unbounded}
 use Rattle.std.specs.declared.cmp.Ordering.{Ordering}
 use Rattle.std.specs.declared.cmp.Ordering.TheVariants.{Less, Equal, Greater}
-use Rattle.std.specs.List.Sorted.{IsStrictlySortedBy}
-use Rattle.std.specs.Ordering.{is_gt, is_le, is_lt, ordering_reverse}
-use Rattle.std.proofs.lemmas.Bool.{and_from, and_parts}
+use Rattle.std.specs.Ordering.{is_gt, is_le, is_lt}
+use Rattle.std.proofs.lemmas.Bool.{and_parts}
 use Rattle.prog_tree.specs.declared.cell.Cell.{Cell}
 use Rattle.prog_tree.specs.declared.cell.Region.{Region}
-use Rattle.prog_tree.specs.Corners.{is_between, AreCorners}
-use Rattle.prog_tree.specs.Table.{cell_cmp, Cells, cells_of, at_cell, is_in}
+use Rattle.prog_tree.specs.Corners.{AreCorners}
+use Rattle.prog_tree.specs.Table.{cell_cmp, Cells, at_cell, is_in}
 use Rattle.prog_tree.proofs.CellSets.{turned}
 use Rattle.prog_tree.proofs.TableStates.{same_cell}
 use Rattle.version_store.specs.declared.block.Slot.{Slot}
 use Rattle.version_store.specs.Blocks.{ended_slot, AreEndedIn, EndsAt, StandsBehind, AreApart, IsKeyOf, LeavesFree}
-use Rattle.version_store.proofs.BlockLaws.{IsPut, IsTaken, put_cases, put_ends, taken_was, less_le, le_less, never_less, le_of, IsFirst, first_is, none_passes}
+use Rattle.version_store.proofs.BlockLaws.{IsPut, IsTaken, put_cases, put_ends, taken_was, less_le, le_less, never_less, le_of, IsFirst, none_passes}
 
 -- the keys from a cell on
 abbrev pub is_from : Cell → Cell → Bool

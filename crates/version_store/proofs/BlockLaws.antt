@@ -1,12 +1,12 @@
 -- What blocks go on saying of chains.
-use Rattle.std.proofs.Common.{◌≡◌, ◌∙◌, ℕ, ◌≤◌, ◌<◌, min, ◌⊎◌, inl, inr, Bool, true, false, cond, List, [], ◌∷◌, refl, ap, sym, subst, arith}
+use Rattle.std.proofs.Common.{◌≡◌, ◌∙◌, ℕ, ◌≤◌, ◌⊎◌, inl, inr, Bool, true, false, cond, List, [], ◌∷◌, refl, ap, sym, subst, arith}
 use Rattle.std.specs.Prelude.{Option, Some, None, IfSome, IsSome, filter, option_map}
 use Rattle.std.specs.Cmp.{tied_itself}
 use Rattle.std.specs.declared.cmp.Ordering.{Ordering}
 use Rattle.std.specs.declared.cmp.Ordering.TheVariants.{Less, Equal, Greater}
 use Rattle.std.specs.List.{AllByRecursion}
 use Rattle.std.specs.List.Sorted.{IsStrictlySortedBy}
-use Rattle.std.specs.Ordering.{is_eq, is_gt, is_le}
+use Rattle.std.specs.Ordering.{is_gt, is_le}
 use Rattle.std.proofs.lemmas.List.Kept.{IsStrictlySortedBy-filter}
 use Rattle.std.proofs.lemmas.Option.{same_Some}
 use Rattle.std.proofs.lemmas.Map.Keys.{sorted_head}
@@ -18,21 +18,35 @@ use Rattle.prog_tree.proofs.TableLemmas.{cell_total}
 use Rattle.prog_tree.proofs.TableStates.{same_cell, cell_is}
 use Rattle.version_store.specs.declared.block.Block.{Block}
 use Rattle.version_store.specs.declared.block.Slot.{Slot}
-use Rattle.version_store.specs.Blocks.{IsTrueBlock, IsTrueSlot, IsTrueAt, AreTrue, ended, ended_slot, EndsBefore, AreEnded, EndsAt, StandsBehind, AreApart, IsKeyOf, LeavesFree, HasSlot}
+use Rattle.version_store.specs.Blocks.{IsTrueBlock, IsTrueSlot, IsTrueAt, AreTrue, ended, ended_slot, EndsBefore, AreEnded, IsKeyOf}
 use Rattle.version_store.specs.StandsFor.{Chain}
 use Rattle.version_store.proofs.FoundLaws.{cells-filter, at_cell-filter}
 
+-- what is true of each slot is true of all
+pub all_true :
+    (floor f : ℕ) (before after : Cells Chain) (slots : Cells Slot) → ((key : Cell) (slot : Slot) → at_cell slots key ≡ Some slot → IsTrueSlot floor before slot → IsTrueSlot f after slot) →
+    AreTrue floor before slots → AreTrue f after slots
+all_true floor f before after slots each holds key = go (at_cell slots key) refl (holds key)
+  where
+    go : (o : Option Slot) → at_cell slots key ≡ o → IsTrueAt floor before o → IsTrueAt f after o
+    go None e h = tt
+    go (Some slot) e h = each key slot e h
+
 -- ---- blocks that end
 
-ended_true : (number : ℕ) (chains : Cells Chain) (region : Region) (block : Block) → IsTrueBlock chains region block → IsTrueBlock chains region (ended number block)
-ended_true number chains region block h n since below = h n since (omega (arith, below))
+-- what is true from 0 on is true from any floor on
+pub true_from : (floor : ℕ) (chains : Cells Chain) (region : Region) (block : Block) → IsTrueBlock 0 chains region block → IsTrueBlock floor chains region block
+true_from floor chains region block h n above since below = h n (omega arith) since below
 
-pub ended_slot_true : (number : ℕ) (chains : Cells Chain) (slot : Slot) → IsTrueSlot chains slot → IsTrueSlot chains (ended_slot number slot)
-ended_slot_true number chains slot h = (ended_true number chains slot.region slot.newest h.0, go slot.older h.1)
+ended_true : (number floor : ℕ) (chains : Cells Chain) (region : Region) (block : Block) → IsTrueBlock floor chains region block → IsTrueBlock floor chains region (ended number block)
+ended_true number floor chains region block h n above since below = h n above since (omega (arith, below))
+
+pub ended_slot_true : (number floor : ℕ) (chains : Cells Chain) (slot : Slot) → IsTrueSlot floor chains slot → IsTrueSlot floor chains (ended_slot number slot)
+ended_slot_true number floor chains slot h = (ended_true number floor chains slot.region slot.newest h.0, go slot.older h.1)
   where
-    go : (o : Option Block) → IfSome o (IsTrueBlock chains slot.region) → IfSome (option_map (ended number) o) (IsTrueBlock chains slot.region)
+    go : (o : Option Block) → IfSome o (IsTrueBlock floor chains slot.region) → IfSome (option_map (ended number) o) (IsTrueBlock floor chains slot.region)
     go None h = tt
-    go (Some block) h = ended_true number chains slot.region block h
+    go (Some block) h = ended_true number floor chains slot.region block h
 
 pub ended_ends : (number : ℕ) (slot : Slot) → EndsBefore number (ended_slot number slot)
 ended_ends number slot = (omega arith, go slot.older)
@@ -58,23 +72,23 @@ IsPut m n key slot = (c : Cell) → at_cell n c ≡ cond (is_same_cell key c) (S
 abbrev pub IsTaken : Cells Slot → Cells Slot → Cell → Type 0
 IsTaken m n key = (c : Cell) → at_cell n c ≡ cond (is_same_cell key c) None (at_cell m c)
 
-pub put_true : (chains : Cells Chain) (m n : Cells Slot) (key : Cell) (slot : Slot) → IsTrueSlot chains slot → IsPut m n key slot → AreTrue chains m → AreTrue chains n
-put_true chains m n key slot h put all c = subst (IsTrueAt chains) (sym (put c)) (go (is_same_cell key c))
+pub put_true : (floor : ℕ) (chains : Cells Chain) (m n : Cells Slot) (key : Cell) (slot : Slot) → IsTrueSlot floor chains slot → IsPut m n key slot → AreTrue floor chains m → AreTrue floor chains n
+put_true floor chains m n key slot h put all c = subst (IsTrueAt floor chains) (sym (put c)) (go (is_same_cell key c))
   where
-    go : (b : Bool) → IsTrueAt chains (cond b (Some slot) (at_cell m c))
+    go : (b : Bool) → IsTrueAt floor chains (cond b (Some slot) (at_cell m c))
     go true = h
     go false = all c
 
-pub taken_true : (chains : Cells Chain) (m n : Cells Slot) (key : Cell) → IsTaken m n key → AreTrue chains m → AreTrue chains n
-taken_true chains m n key taken all c = subst (IsTrueAt chains) (sym (taken c)) (go (is_same_cell key c))
+pub taken_true : (floor : ℕ) (chains : Cells Chain) (m n : Cells Slot) (key : Cell) → IsTaken m n key → AreTrue floor chains m → AreTrue floor chains n
+taken_true floor chains m n key taken all c = subst (IsTrueAt floor chains) (sym (taken c)) (go (is_same_cell key c))
   where
-    go : (b : Bool) → IsTrueAt chains (cond b None (at_cell m c))
+    go : (b : Bool) → IsTrueAt floor chains (cond b None (at_cell m c))
     go true = tt
     go false = all c
 
 -- what is found is true
-pub found_true : (chains : Cells Chain) (m : Cells Slot) (key : Cell) (slot : Slot) → Some slot ≡ at_cell m key → AreTrue chains m → IsTrueSlot chains slot
-found_true chains m key slot found all = subst (IsTrueAt chains) (sym found) (all key)
+pub found_true : (floor : ℕ) (chains : Cells Chain) (m : Cells Slot) (key : Cell) (slot : Slot) → Some slot ≡ at_cell m key → AreTrue floor chains m → IsTrueSlot floor chains slot
+found_true floor chains m key slot found all = subst (IsTrueAt floor chains) (sym found) (all key)
 
 -- the slot of a key in a map into which one was put
 pub put_cases : (m n : Cells Slot) (key : Cell) (slot : Slot) → IsPut m n key slot → (c : Cell) (s : Slot) → at_cell n c ≡ Some s → ((key ≡ c) × (slot ≡ s)) ⊎ (at_cell m c ≡ Some s)

@@ -1,34 +1,22 @@
 -- What blocks go on saying behind a commit.
-use Rattle.std.proofs.Common.{◌≡◌, ◌∙◌, ℕ, ◌+◌, ◌<◌, ◌≤◌, ◌⊎◌, inl, inr, Bool, true, false, cond, if◌then◌else◌, List, [], ◌∷◌, ◌++◌, refl, ap, sym, subst, arith}
+use Rattle.std.proofs.Common.{◌≡◌, ◌∙◌, ℕ, ◌<◌, ◌≤◌, Bool, true, false, cond, if◌then◌else◌, List, [], ◌∷◌, refl, ap, sym, subst, arith}
 use Rattle.std.specs.Prelude.{ℤ, Option, Some, None, IfSome, is_some}
 use Rattle.std.proofs.lemmas.Bool.{lt-leb}
 use Rattle.prog_tree.specs.declared.cell.Cell.{Cell}
 use Rattle.prog_tree.specs.declared.cell.Region.{Region}
 use Rattle.prog_tree.specs.ChangeSet.{ChangeSet, ChangedCells, change_at}
-use Rattle.prog_tree.specs.Table.{Cells, at_cell, is_same_cell, is_cell_among, is_in, row_at, TableState}
+use Rattle.prog_tree.specs.Table.{Cells, at_cell, is_same_cell, is_cell_among, is_in}
 use Rattle.prog_tree.proofs.TableStates.{cell_is}
 use Rattle.version_store.specs.declared.block.Block.{Block}
 use Rattle.version_store.specs.declared.block.Slot.{Slot}
 use Rattle.version_store.specs.Blocks.{IsTrueBlock, IsTrueSlot, IsTrueAt, AreTrue, EndsBefore, AreEnded, AreEndedIn, HasCell}
-use Rattle.version_store.specs.Reading.{AllRise, RisesFrom, chain_at, value_after, value_at, with_commit, with_change_by, with_mark_by, MakesEach}
+use Rattle.version_store.specs.Reading.{chain_at, value_at, with_commit, with_change_by, with_mark_by, MakesEach}
 use Rattle.version_store.specs.Regions.{seen_in, IsSeen}
 use Rattle.version_store.specs.StandsFor.{Chain}
-use Rattle.version_store.proofs.NewestLaws.{rises_older, value_older}
+use Rattle.version_store.proofs.BlockLaws.{all_true}
+use Rattle.version_store.proofs.NewestLaws.{value_older}
 
 -- ---- one chain
-
--- before a commit the versions rose too
-rose : (n : ℕ) (w : ChangeSet) (c : Cell) (chain : Chain) → RisesFrom 0 (with_commit n w c chain).versions → RisesFrom 0 chain.versions
-rose n w c chain = go (change_at w c) (is_cell_among w.kept c)
-  where
-    go : (o : Option (Option ℤ)) (kept : Bool) → RisesFrom 0 (with_mark_by n kept (with_change_by n o chain)).versions → RisesFrom 0 chain.versions
-    go None true h = h
-    go None false h = h
-    go (Some x) true h = rises_older 0 chain.versions ((n, x) ∷ []) h
-    go (Some x) false h = rises_older 0 chain.versions ((n, x) ∷ []) h
-
-all_rose : (n : ℕ) (w : ChangeSet) (before after : Cells Chain) → MakesEach (with_commit n w) before after → AllRise after → AllRise before
-all_rose n w before after made rise c = rose n w c (chain_at before c) (subst (λ (x : Chain). RisesFrom 0 x.versions) (made c) (rise c))
 
 -- below its number a commit changes nothing, and nothing at all where it changes no cell
 value_stays : (n : ℕ) (w : ChangeSet) (c : Cell) (chain : Chain) (m : ℕ) → (is_some (change_at w c) ≡ true → m < n) → value_at m chain ≡ value_at m (with_commit n w c chain)
@@ -43,12 +31,12 @@ value_stays n w c chain m below = go (change_at w c) (is_cell_among w.kept c) be
 -- ---- blocks
 
 block_stays :
-    (n : ℕ) (w : ChangeSet) (before after : Cells Chain) (region : Region) (block : Block) → MakesEach (with_commit n w) before after →
-    ((c : Cell) → is_some (change_at w c) ≡ true → is_in region c ≡ true → block.till ≤ n) → IsTrueBlock before region block → IsTrueBlock after region block
-block_stays n w before after region block made ends holds m since below = (seen.0, λ c. seen.1 c ∙ go c (is_in region c) refl)
+    (floor n : ℕ) (w : ChangeSet) (before after : Cells Chain) (region : Region) (block : Block) → MakesEach (with_commit n w) before after →
+    ((c : Cell) → is_some (change_at w c) ≡ true → is_in region c ≡ true → block.till ≤ n) → IsTrueBlock floor before region block → IsTrueBlock floor after region block
+block_stays floor n w before after region block made ends holds m above since below = (seen.0, λ c. seen.1 c ∙ go c (is_in region c) refl)
   where
     seen : IsSeen (seen_in region m) before block.rows
-    seen = holds m since below
+    seen = holds m above since below
 
     go : (c : Cell) (b : Bool) → is_in region c ≡ b → (if b then value_at m (chain_at before c) else None) ≡ (if b then value_at m (chain_at after c) else None)
     go c true inside =
@@ -57,27 +45,24 @@ block_stays n w before after region block made ends holds m since below = (seen.
     go c false outside = refl
 
 slot_stays :
-    (n : ℕ) (w : ChangeSet) (before after : Cells Chain) (slot : Slot) → MakesEach (with_commit n w) before after →
-    ((c : Cell) → is_some (change_at w c) ≡ true → is_in slot.region c ≡ true → EndsBefore n slot) → IsTrueSlot before slot → IsTrueSlot after slot
-slot_stays n w before after slot made ends holds = (
-  block_stays n w before after slot.region slot.newest made (λ c changed inside. (ends c changed inside).0) holds.0,
+    (floor n : ℕ) (w : ChangeSet) (before after : Cells Chain) (slot : Slot) → MakesEach (with_commit n w) before after →
+    ((c : Cell) → is_some (change_at w c) ≡ true → is_in slot.region c ≡ true → EndsBefore n slot) → IsTrueSlot floor before slot → IsTrueSlot floor after slot
+slot_stays floor n w before after slot made ends holds = (
+  block_stays floor n w before after slot.region slot.newest made (λ c changed inside. (ends c changed inside).0) holds.0,
   go slot.older (λ c changed inside. (ends c changed inside).1) holds.1,
 )
   where
     go : (o : Option Block) → ((c : Cell) → is_some (change_at w c) ≡ true → is_in slot.region c ≡ true → IfSome o (λ (block : Block). block.till ≤ n)) →
-        IfSome o (IsTrueBlock before slot.region) → IfSome o (IsTrueBlock after slot.region)
+        IfSome o (IsTrueBlock floor before slot.region) → IfSome o (IsTrueBlock floor after slot.region)
     go None ends holds = tt
-    go (Some block) ends holds = block_stays n w before after slot.region block made ends holds
+    go (Some block) ends holds = block_stays floor n w before after slot.region block made ends holds
 
 -- blocks that are true before a commit, and end before it where it changes a cell, are true behind it
 pub true_behind :
-    (n : ℕ) (w : ChangeSet) (before after : Cells Chain) (slots : Cells Slot) → MakesEach (with_commit n w) before after →
-    ((c : Cell) → is_some (change_at w c) ≡ true → AreEnded n c slots) → (AllRise before → AreTrue before slots) → AllRise after → AreTrue after slots
-true_behind n w before after slots made ends holds rise key = go (at_cell slots key) refl (holds (all_rose n w before after made rise) key)
-  where
-    go : (o : Option Slot) → at_cell slots key ≡ o → IsTrueAt before o → IsTrueAt after o
-    go None e h = tt
-    go (Some slot) e h = slot_stays n w before after slot made (λ c changed inside. ends c changed key slot e inside) h
+    (floor n : ℕ) (w : ChangeSet) (before after : Cells Chain) (slots : Cells Slot) → MakesEach (with_commit n w) before after →
+    ((c : Cell) → is_some (change_at w c) ≡ true → AreEnded n c slots) → AreTrue floor before slots → AreTrue floor after slots
+true_behind floor n w before after slots made ends =
+    all_true floor floor before after slots (λ key slot at. slot_stays floor n w before after slot made (λ c changed inside. ends c changed key slot at inside))
 
 -- ---- the cells that are gone over
 
@@ -109,5 +94,5 @@ done_ends n (Some region) slots c ended has = ended c has
 pub none_ended : (n : ℕ) (c : Cell) (slots : Cells Slot) → slots ≡ [] → AreEnded n c slots
 none_ended n c slots none key slot at inside = let never : None ≡ Some slot = sym (ap (λ (es : Cells Slot). at_cell es key) none) ∙ at in absurd (cc)
 
-pub none_true : (chains : Cells Chain) (slots : Cells Slot) → slots ≡ [] → AreTrue chains slots
-none_true chains slots none key = subst (λ (es : Cells Slot). IsTrueAt chains (at_cell es key)) (sym none) tt
+pub none_true : (floor : ℕ) (chains : Cells Chain) (slots : Cells Slot) → slots ≡ [] → AreTrue floor chains slots
+none_true floor chains slots none key = subst (λ (es : Cells Slot). IsTrueAt floor chains (at_cell es key)) (sym none) tt

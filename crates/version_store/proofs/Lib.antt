@@ -16,6 +16,7 @@ pub mod RisingLaws
 pub mod ScanLaws
 pub mod ShareLaws
 pub mod SizeLaws
+pub mod SoundLaws
 pub mod SplitLaws
 pub mod StandsLaws
 pub mod StretchLaws

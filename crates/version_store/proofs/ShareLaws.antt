@@ -1,6 +1,6 @@
 -- What a scan keeps that shares the rows of blocks.
 use Rattle.std.proofs.Common.{◌≡◌, ◌∙◌, ℕ, ◌≤◌, Bool, true, false, cond, List, [], ◌∷◌, ◌++◌, refl, ap, sym, subst, append_assoc, append-nil}
-use Rattle.std.specs.Prelude.{ℤ, Option, Some, None, filter}
+use Rattle.std.specs.Prelude.{Some, None, filter}
 use Rattle.std.specs.List.Sorted.{IsStrictlySortedBy}
 use Rattle.std.proofs.lemmas.List.Kept.{IsStrictlySortedBy-filter}
 use Rattle.std.proofs.lemmas.Map.Keys.{sorted_tail}
@@ -39,11 +39,11 @@ rows_are region n chains sorted = found_is (seen_in region n) (no_chain_in regio
 
 -- the rows before a slot are read, and its own are shared
 pub shares_more :
-    (region left : Region) (n : ℕ) (chains : Cells Chain) (slot : Slot) (rows : TableState) (old read : List TableState) → IsStrictlySortedBy cell_cmp (cells_of chains) →
-    IsPart slot.region left → IsOfSlot n slot rows → IsTrueSlot chains slot →
+    (region left : Region) (n floor : ℕ) → floor ≤ n → (chains : Cells Chain) (slot : Slot) (rows : TableState) (old read : List TableState) → IsStrictlySortedBy cell_cmp (cells_of chains) →
+    IsPart slot.region left → IsOfSlot n slot rows → IsTrueSlot floor chains slot →
     ((m : TableState) → IsSeen (seen_in (part_before left slot.region.first_low) n) chains m → rows_of read ≡ rows_of old ++ m) →
     Shares region n chains left old → Shares region n chains (part_behind left slot.region.first_high) (read ++ rows ∷ [])
-shares_more region left n chains slot rows old read sorted part of_slot holds reads so_far =
+shares_more region left n floor above chains slot rows old read sorted part of_slot holds reads so_far =
     ap (λ more. more ++ behind) (rows_of-push read rows ∙ ap (λ more. more ++ rows) (reads before (seen_rows (part_before left slot.region.first_low) n chains sorted)))
     ∙ append_assoc (rows_of old ++ before) rows behind
     ∙ append_assoc (rows_of old) before (rows ++ behind)
@@ -58,7 +58,7 @@ shares_more region left n chains slot rows old read sorted part of_slot holds re
     behind = found_rows (seen_in (part_behind left slot.region.first_high) n) chains
 
     is_own : found_rows (seen_in (part_between left slot.region.first_low slot.region.first_high) n) chains ≡ rows
-    is_own = ap (λ r. found_rows (seen_in r n) chains) (sym part.0) ∙ rows_are slot.region n chains sorted rows (of_slot chains holds)
+    is_own = ap (λ r. found_rows (seen_in r n) chains) (sym part.0) ∙ rows_are slot.region n chains sorted rows (of_slot floor above chains holds)
 
 -- at the end what is left is read
 pub shared :

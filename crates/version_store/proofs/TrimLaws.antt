@@ -163,7 +163,7 @@ trimmed_rises f chain h = begin chain.versions h
 -- ---- numbers below the next commit
 
 -- a list that a filter leaves whole, and its rest
-filtered_rest : {A : Type 0} (p : A → Bool) (x : A) (xs : List A) → filter p (x ∷ xs) ≡ x ∷ xs → (p x ≡ true) × (filter p xs ≡ xs)
+pub filtered_rest : {A : Type 0} (p : A → Bool) (x : A) (xs : List A) → filter p (x ∷ xs) ≡ x ∷ xs → (p x ≡ true) × (filter p xs ≡ xs)
 filtered_rest p x xs whole = go (p x) refl whole
   where
     go : (b : Bool) → p x ≡ b → cond b (x ∷ filter p xs) (filter p xs) ≡ x ∷ xs → (p x ≡ true) × (filter p xs ≡ xs)

@@ -1,11 +1,11 @@
 -- What the loops over touches keep.
-use Rattle.std.proofs.Common.{◌≡◌, ◌∙◌, ℕ, ◌+◌, ◌-◌, ◌^◌, ◌≤◌, min, Bool, true, false, ◌||◌, cond, if◌then◌else◌, leb, List, [], ◌∷◌, ◌++◌, length, take, refl, ap, sym, arith, append_assoc, append-nil}
+use Rattle.std.proofs.Common.{◌≡◌, ◌∙◌, ℕ, ◌+◌, ◌-◌, ◌^◌, ◌≤◌, min, ◌⊎◌, inl, inr, Bool, true, false, ◌||◌, cond, if◌then◌else◌, leb, List, [], ◌∷◌, ◌++◌, length, take, refl, ap, sym, arith, append_assoc, append-nil}
 use Rattle.std.proofs.lemmas.Bool.{le-leb}
 use Rattle.std.proofs.lemmas.List.{take_all}
 use Rattle.prog_tree.specs.declared.cell.Cell.{Cell}
 use Rattle.prog_tree.specs.Table.{Cells, is_same_cell, is_cell_among}
 use Rattle.prog_tree.proofs.CellSets.{same-turned}
-use Rattle.version_store.specs.Reading.{chain_at, MakesAt}
+use Rattle.version_store.specs.Reading.{chain_at, MakesAt, MayTrim}
 use Rattle.version_store.specs.StandsFor.{Chain, trimmed, size, EachHolds}
 use Rattle.version_store.specs.Trimming.{numbered, within, beyond, TakesWithin}
 use Rattle.version_store.proofs.TrimLaws.{trimmed_again}
@@ -44,7 +44,7 @@ adds_all number cells left before now is h = sym (append-nil now) ∙ ap (λ ks.
 -- the chains of the cells of the touches that are left will be trimmed, and the others are
 pub record Vacuums (f : ℕ) (before now : Cells Chain) (first left : List (ℕ × Cell)) (count : ℕ) : Type 0 where
   pub rest : beyond f left ≡ beyond f first
-  pub same : (c : Cell) → trimmed f (chain_at now c) ≡ trimmed f (chain_at before c)
+  pub each : MayTrim f before now
   pub done :
       ((c : Cell) → is_cell_among (within f first) c ≡ false → trimmed f (chain_at before c) ≡ chain_at before c) →
       (c : Cell) → is_cell_among (within f left) c ≡ false → chain_at now c ≡ trimmed f (chain_at before c)
@@ -58,7 +58,7 @@ pub vacuums_more :
     Vacuums f before next first rest total
 vacuums_more f before now next first left rest cell count n total takes made holds fewer adds h = record {
   rest = sym beyond_left ∙ h.rest;
-  same = λ c. ap (trimmed f) (made c) ∙ twice (is_same_cell cell c) c ∙ h.same c;
+  each = λ c. one c (is_same_cell cell c) (made c) (h.each c);
   done = λ idle c none. made c ∙ turn c (is_same_cell cell c) refl none (h.done idle c);
   hold = λ each. holds (h.hold each);
   falls = omega (arith, fewer, h.falls);
@@ -74,12 +74,18 @@ vacuums_more f before now next first left rest cell count n total takes made hol
     within_left : within f left ≡ cell ∷ within f rest
     within_left = ap (within f) takes.2 ∙ ap (λ b. cond b (cell ∷ within f rest) []) low
 
-    twice : (b : Bool) (c : Cell) → trimmed f (if b then trimmed f (chain_at now c) else chain_at now c) ≡ trimmed f (chain_at now c)
-    twice true c = trimmed_again f f (omega arith) (chain_at now c)
-    twice false c = refl
+    same : (c : Cell) → (chain_at now c ≡ chain_at before c) ⊎ (chain_at now c ≡ trimmed f (chain_at before c)) → trimmed f (chain_at now c) ≡ trimmed f (chain_at before c)
+    same c (inl is) = ap (trimmed f) is
+    same c (inr is) = ap (trimmed f) is ∙ trimmed_again f f (omega arith) (chain_at before c)
+
+    one : (c : Cell) (b : Bool) → chain_at next c ≡ (if b then trimmed f (chain_at now c) else chain_at now c) →
+        (chain_at now c ≡ chain_at before c) ⊎ (chain_at now c ≡ trimmed f (chain_at before c)) → (chain_at next c ≡ chain_at before c) ⊎ (chain_at next c ≡ trimmed f (chain_at before c))
+    one c true e so_far = inr (e ∙ same c so_far)
+    one c false e (inl is) = inl (e ∙ is)
+    one c false e (inr is) = inr (e ∙ is)
 
     turn : (c : Cell) (b : Bool) → is_same_cell cell c ≡ b → is_cell_among (within f rest) c ≡ false →
         (is_cell_among (within f left) c ≡ false → chain_at now c ≡ trimmed f (chain_at before c)) →
         (if b then trimmed f (chain_at now c) else chain_at now c) ≡ trimmed f (chain_at before c)
-    turn c true same none later = h.same c
+    turn c true found none later = same c (h.each c)
     turn c false apart none later = later (ap (λ cells. is_cell_among cells c) within_left ∙ ap (λ b. b || is_cell_among (within f rest) c) (same-turned c cell ∙ apart) ∙ none)

@@ -1,5 +1,5 @@
 -- Blocks: the rows of some cells, which scans share.
-use Rattle.std.specs.Prelude.{◌≡◌, ℕ, ◌+◌, ◌<◌, ◌≤◌, ⊤, ℤ, ◌+ℤ◌, ◌-ℤ◌, ◌≤ℤ◌, ◌<ℤ◌, pos, min, true, false, List, Option, Some, None, IfSome, option_map, ◌⊎◌}
+use Rattle.std.specs.Prelude.{◌≡◌, ℕ, ◌<◌, ◌≤◌, ⊤, ℤ, ◌+ℤ◌, ◌-ℤ◌, ◌≤ℤ◌, ◌<ℤ◌, pos, min, true, false, List, Option, Some, None, IfSome, option_map, ◌⊎◌}
 use Rattle.std.specs.Ordering.{is_gt}
 use Rattle.std.specs.declared.cmp.Ordering.TheVariants.{Less}
 use Rattle.prog_tree.specs.declared.cell.Cell.{Cell}
@@ -29,38 +29,39 @@ SeesIn region stretch c chain = (n : ℕ) → InStretch stretch n → seen_betwe
 
 -- ---- what blocks say of chains
 
--- a block has the rows of a region after each number of commits from `since` on and below `till`
-abbrev pub IsTrueBlock : Cells Chain → Region → Block → Type 0
-IsTrueBlock chains region block =
-    (n : ℕ) → block.since ≤ n → n < block.till → IsSeen (seen_in region n) chains block.rows
+-- a block has the rows of a region after each number of commits from a floor on, from `since` on and below `till`
+abbrev pub IsTrueBlock : (floor : ℕ) → Cells Chain → Region → Block → Type 0
+IsTrueBlock floor chains region block =
+    (n : ℕ) → floor ≤ n → block.since ≤ n → n < block.till → IsSeen (seen_in region n) chains block.rows
 
 -- so has each block of a slot
-abbrev pub IsTrueSlot : Cells Chain → Slot → Type 0
-IsTrueSlot chains slot =
-    IsTrueBlock chains slot.region slot.newest × IfSome slot.older (IsTrueBlock chains slot.region)
+abbrev pub IsTrueSlot : (floor : ℕ) → Cells Chain → Slot → Type 0
+IsTrueSlot floor chains slot =
+    IsTrueBlock floor chains slot.region slot.newest × IfSome slot.older (IsTrueBlock floor chains slot.region)
 
 -- so has a slot, where there is one
-abbrev pub IsTrueAt : Cells Chain → Option Slot → Type 0
-IsTrueAt chains None = ⊤
-IsTrueAt chains (Some slot) = IsTrueSlot chains slot
+abbrev pub IsTrueAt : (floor : ℕ) → Cells Chain → Option Slot → Type 0
+IsTrueAt floor chains None = ⊤
+IsTrueAt floor chains (Some slot) = IsTrueSlot floor chains slot
 
 -- all slots
-abbrev pub AreTrue : Cells Chain → Cells Slot → Type 0
-AreTrue chains slots = (key : Cell) → IsTrueAt chains (at_cell slots key)
+abbrev pub AreTrue : (floor : ℕ) → Cells Chain → Cells Slot → Type 0
+AreTrue floor chains slots = (key : Cell) → IsTrueAt floor chains (at_cell slots key)
 
--- what is true of chains stays true
+-- what is true of chains from a floor on stays true
 abbrev pub StaysTrue : Cells Chain → Cells Slot → Cells Slot → Type 0
-StaysTrue chains old new = AreTrue chains old → AreTrue chains new
+StaysTrue chains old new = (floor : ℕ) → AreTrue floor chains old → AreTrue floor chains new
 
--- rows are those of an older block after a number of commits, if it is true
+-- rows are those of an older block after a number of commits, if it is true from no later floor on
 abbrev pub IsOfOlder : (n : ℕ) → Option Block → TableState → Type 0
 IsOfOlder n older rows =
-    (chains : Cells Chain) → (region : Region) → IfSome older (IsTrueBlock chains region) → IsSeen (seen_in region n) chains rows
+    (floor : ℕ) → floor ≤ n → (chains : Cells Chain) → (region : Region) → IfSome older (IsTrueBlock floor chains region) →
+    IsSeen (seen_in region n) chains rows
 
--- rows are those of a slot after a number of commits, if the slot is true
+-- rows are those of a slot after a number of commits, if the slot is true from no later floor on
 abbrev pub IsOfSlot : (n : ℕ) → Slot → TableState → Type 0
 IsOfSlot n slot rows =
-    (chains : Cells Chain) → IsTrueSlot chains slot → IsSeen (seen_in slot.region n) chains rows
+    (floor : ℕ) → floor ≤ n → (chains : Cells Chain) → IsTrueSlot floor chains slot → IsSeen (seen_in slot.region n) chains rows
 
 -- ---- blocks that end
 

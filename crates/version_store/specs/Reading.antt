@@ -1,5 +1,5 @@
 -- What is read from the chains of cells, and what commits add to them.
-use Rattle.std.specs.Prelude.{◌≡◌, ℕ, ◌+◌, ◌≤◌, ⊤, ℤ, max, nat_lt, leb, Bool, true, false, List, [], ◌∷◌, ◌++◌, filter, map, Option, Some, None, unwrap_or, if◌then◌else◌}
+use Rattle.std.specs.Prelude.{◌≡◌, ℕ, ◌+◌, ◌≤◌, ⊤, ℤ, max, nat_lt, leb, Bool, true, false, List, [], ◌∷◌, ◌++◌, filter, map, Option, Some, None, ◌⊎◌, unwrap_or, if◌then◌else◌}
 use Rattle.std.specs.List.Sorted.{IsPartitionPoint}
 use Rattle.prog_tree.specs.declared.cell.Cell.{Cell}
 use Rattle.prog_tree.specs.ChangeSet.{ChangeSet, change_at, touches_cell}
@@ -103,6 +103,10 @@ cut_from n chain = record {
 abbrev pub IsBelow : ℕ → Chain → Type 0
 IsBelow n chain = cut_from n chain ≡ chain
 
+-- so is each chain
+abbrev pub AreBelow : ℕ → Cells Chain → Type 0
+AreBelow n chains = (c : Cell) → IsBelow n (chain_at chains c)
+
 -- at each cell nothing has changed below the number, and nothing at all where the changes don't touch it
 abbrev pub IsGrown : ℕ → ChangeSet → Cells Chain → Cells Chain → Type 0
 IsGrown n w before after =
@@ -127,6 +131,11 @@ MakesEach f before after = (c : Cell) → chain_at after c ≡ f c (chain_at bef
 abbrev pub TrimsAll : (f : ℕ) → List Cell → Cells Chain → Cells Chain → Type 0
 TrimsAll f cells before after =
     ((c : Cell) → is_cell_among cells c ≡ false → trimmed f (chain_at before c) ≡ chain_at before c) → MakesEach (λ c. trimmed f) before after
+
+-- each chain is trimmed, or as it was
+abbrev pub MayTrim : (f : ℕ) → Cells Chain → Cells Chain → Type 0
+MayTrim f before after =
+    (c : Cell) → (chain_at after c ≡ chain_at before c) ⊎ (chain_at after c ≡ trimmed f (chain_at before c))
 
 -- where all numbers were below n, each chain is the same
 abbrev pub KeepsBelow : ℕ → Cells Chain → Cells Chain → Type 0

@@ -84,9 +84,9 @@ impl Slot {
     /// Takes a block of its cells, and keeps the newest of the others.
     pub fn add(&mut self, block: Block)
         ensures region { self.new.region ≡ self.old.region }
-        ensures true_slot { (chains : Cells Chain) →
-            IsTrueBlock chains self.old.region block →
-            IsTrueSlot chains self.old → IsTrueSlot chains self.new }
+        ensures true_slot { (floor : ℕ) (chains : Cells Chain) →
+            IsTrueBlock 0 chains self.old.region block →
+            IsTrueSlot floor chains self.old → IsTrueSlot floor chains self.new }
     {
         if block.since < self.newest.since {
             self.older = Some(block);

@@ -108,7 +108,8 @@ impl Blocks {
         region: &Region,
     ) -> Result<RowPieces, AllocError>
         ensures { IfOk result (λ rows. AllRise chains.now →
-            AreTrue chains.now self.now → IsSeen (seen_in region.now start) chains.now rows) }
+            (floor : ℕ) → floor ≤ start → AreTrue floor chains.now self.now →
+            IsSeen (seen_in region.now start) chains.now rows) }
     {
         chains.read_order();
         let mut pieces = Vec::new(self.alloc);

@@ -40,7 +40,7 @@ impl Chains {
     /// The block of a region that says what is after the first `start` commits.
     pub fn block_of(&self, start: u64, region: &Region) -> Result<Walked, AllocError>
         ensures { IfOk result (λ walked. AllRise self.now →
-            IsTrueBlock self.now region.now walked.block) }
+            IsTrueBlock 0 self.now region.now walked.block) }
     {
         let mut rows = Vec::with_capacity(self.alloc, NEW_CELLS)?;
         let mut since = 0;

@@ -13,6 +13,9 @@ use std::alloc::{AllocError, Global};
 use std::collections::BTreeMap;
 use std::marker::Model;
 
+// How many cells there are at least for a slot.
+const FEWEST_CELLS: usize = 32;
+
 /// Slots that stand apart, each by the last cell of its region.
 #[derive(Debug, Drop)]
 pub struct Blocks {
@@ -63,6 +66,16 @@ impl Blocks {
         ensures { self.new ≡ [] }
     {
         self.slots.clear();
+    }
+
+    /// Drops all of them where there are too many for so many cells with chains: cells that have
+    /// gone leave theirs behind.
+    pub fn limit(&mut self, cells: usize)
+        ensures { (chains : Cells Chain) → StaysTrue chains self.old self.new }
+    {
+        if self.slots.len() > cells / FEWEST_CELLS {
+            self.clear();
+        }
     }
 
     // The key of the slot that has a cell, if there is one.
@@ -132,7 +145,7 @@ impl Blocks {
     /// Makes a slot of a block, where none has any of its cells.
     pub fn insert(&mut self, region: &Region, block: Block) -> Result<(), AllocError>
         ensures { (chains : Cells Chain) →
-            IsTrueBlock chains region.now block →
+            IsTrueBlock 0 chains region.now block →
             StaysTrue chains self.old self.new }
     {
         let Some((low, high)) = region.corners() else {
@@ -160,7 +173,7 @@ impl Blocks {
     /// Adds a block to the slot of a key, where that is just of this region.
     pub fn add(&mut self, key: &Cell, region: &Region, block: Block)
         ensures { (chains : Cells Chain) →
-            IsTrueBlock chains region.now block →
+            IsTrueBlock 0 chains region.now block →
             StaysTrue chains self.old self.new }
     {
         if !self.has_slot(key, region) {

@@ -1,13 +1,13 @@
 //! The chains of all cells.
-ghost use Rattle.std.specs.Prelude.{◌≡◌, ◌+◌, ◌-◌, ◌≤◌, ◌^◌, [], Some, min, IfOk, IsTrue, IsFalse};
-ghost use Rattle.std.specs.Prelude.{OnOk, OnErr};
+ghost use Rattle.std.specs.Prelude.{◌≡◌, ◌+◌, ◌-◌, ◌≤◌, ◌^◌, [], length, Some, min, IfOk, IsTrue};
+ghost use Rattle.std.specs.Prelude.{IsFalse, OnOk, OnErr};
 ghost use Rattle.std.specs.BTreeMap.{IsFromIterResult};
 ghost use Rattle.std.specs.List.Sorted.{IsStrictlySortedBy};
 ghost use Rattle.prog_tree.specs.Table.{cell_cmp, cells_of, row_at, IsTableState};
 ghost use Rattle.version_store.specs.Reading.{AllRise, chain_at, value_at, number_at};
 ghost use Rattle.version_store.specs.Reading.{opening_chains, with_opening_row, with_commit};
 ghost use Rattle.version_store.specs.Reading.{cut_from, IsGrown, TrimsAll, MakesAt, MakesEach};
-ghost use Rattle.version_store.specs.Reading.{MakesTouched, KeepsBelow, OthersHold};
+ghost use Rattle.version_store.specs.Reading.{MakesTouched, MayTrim, KeepsBelow, OthersHold};
 ghost use Rattle.version_store.specs.StandsFor.{no_chain, size, trimmed, EachHolds};
 ghost use Rattle.version_store.specs.Touches.{with_touch};
 ghost use Rattle.version_store.specs.Trimming.{within, beyond};
@@ -191,6 +191,13 @@ impl Chains {
         Ok(())
     }
 
+    /// How many cells have a chain.
+    pub fn len(&self) -> usize
+        ensures { result ≡ length self.now }
+    {
+        self.chains.len()
+    }
+
     /// The cells stand in their order.
     pub fn read_order(&self)
         ensures { IsStrictlySortedBy cell_cmp (cells_of self.now) }
@@ -232,6 +239,7 @@ impl Chains {
     pub fn vacuum(&mut self, pending: &mut Pending, floor: u64) -> u64
         ensures pending { pending.new ≡ beyond floor pending.old }
         ensures chains { TrimsAll floor (within floor pending.old) self.old self.new }
+        ensures each { MayTrim floor self.old self.new }
         ensures hold { EachHolds self.old → EachHolds self.new }
         ensures falls { size self.new ≤ size self.old }
         ensures count { result ≡ min (size self.old - size self.new) (2 ^ 64 - 1) }

@@ -30,8 +30,9 @@ pub struct Store {
 }
 
 impl Model for Store {
+    ghost use Rattle.std.specs.Prelude.{◌+◌};
     ghost use Rattle.version_store.specs.Blocks.{AreTrue};
-    ghost use Rattle.version_store.specs.Reading.{AllRise};
+    ghost use Rattle.version_store.specs.Reading.{AllRise, AreBelow};
     ghost use Rattle.version_store.specs.StandsFor.{StoreView};
 
     ghost Value = { StoreView };
@@ -44,7 +45,8 @@ impl Model for Store {
       pending = s.pending;
     } };
 
-    ghost invariant = { λ s. AllRise s.chains → AreTrue s.chains s.blocks };
+    ghost invariant = { λ s. AllRise s.chains × AreBelow (s.commits + 1) s.chains
+        × AreTrue s.floor s.chains s.blocks };
 }
 
 impl Store {
@@ -118,7 +120,7 @@ impl Store {
 
     // Whether some rows are those of a region after the first `start` commits, cut into the same
     // pieces as a scan cuts them.
-    fn are_same_pieces(&self, start: u64, region: &Region, rows: &RowPieces) -> bool
+    fn has_same_pieces(&self, start: u64, region: &Region, rows: &RowPieces) -> bool
         requires above { self.now.floor ≤ start }
         requires within { start ≤ self.now.commits }
         ensures { IsTrue result → InEachHistory self.now (λ opening ws.
@@ -138,7 +140,7 @@ impl Store {
         ensures { InEachHistory self.now (λ opening ws.
             IsTrue result ↔ (rows_left region.now own.now (state_at opening ws start) ≡ rows.now)) }
     {
-        if own.is_empty() && rows.pieces().len() > 1 && self.are_same_pieces(start, region, rows) {
+        if own.is_empty() && rows.pieces().len() > 1 && self.has_same_pieces(start, region, rows) {
             return true;
         }
         self.chains.are_held(start, region, own, rows)
@@ -221,7 +223,7 @@ impl Store {
         self.chains.read_order();
         let count = self.chains.vacuum(&mut self.pending, floor);
         self.chains.read_order();
-        self.blocks.clear();
+        self.blocks.limit(self.chains.len());
         self.floor = floor;
         self.versions = self.versions.saturating_sub(count);
         count

@@ -1,4 +1,4 @@
-use Rattle.std.proofs.Common.{◌≡◌, ◌∙◌, if◌then◌else◌, ap, sym, rules, w64, FitsSigned}
+use Rattle.std.proofs.Common.{◌∙◌, if◌then◌else◌, ap, sym, rules, w64, FitsSigned}
 use Rattle.std.specs.Prelude.{None}
 use Rattle.std.proofs.lemmas.Int.{to_z-of_z}
 use Rattle.version_store.specs.Reading.{value_at}

@@ -5,7 +5,7 @@ use Rattle.prog_tree.specs.declared.cell.Cell.{Cell}
 use Rattle.prog_tree.specs.declared.cell.Region.{Region}
 use Rattle.prog_tree.specs.Table.{at_cell}
 use Rattle.version_store.specs.declared.block.Slot.{Slot}
-use Rattle.version_store.specs.Blocks.{AreApart, HasSlot, IsTrueBlock}
+use Rattle.version_store.specs.Blocks.{AreApart, IsTrueBlock}
 use Rattle.version_store.proofs.ApartLaws.{apart_put}
 use Rattle.version_store.proofs.BlockLaws.{put_found, put_true, found_true}
 use Rattle.version_store.proofs.blocks.Blocks.add.Goals as goal
@@ -34,6 +34,6 @@ returns c =
     let held = c.has_slot.ensures c.if-not-has_slot.false in
     let has = rw (← c.self.view_is) at held in
     let region : old.region ≡ c.args.region.now = subst (λ (o : Option Slot). IfSome o (λ (s : Slot). s.region ≡ c.args.region.now)) (sym c.in-Some.ensures.value) has in
-    rw (← c.self.view_is) (λ chains fresh all.
-    put_true chains m n key slot
-    (c.add.ensures.true_slot chains (subst (λ (r : Region). IsTrueBlock chains r c.args.block) (sym region) fresh) (found_true chains m key old c.in-Some.ensures.value all)) put all)
+    rw (← c.self.view_is) (λ chains fresh floor all.
+    put_true floor chains m n key slot
+    (c.add.ensures.true_slot floor chains (subst (λ (r : Region). IsTrueBlock 0 chains r c.args.block) (sym region) fresh) (found_true floor chains m key old c.in-Some.ensures.value all)) put all)

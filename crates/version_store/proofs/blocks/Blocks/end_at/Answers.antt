@@ -59,8 +59,8 @@ returns-clause-stays c =
     let written = λ (some : IsSome (at_cell m c.in-Some.key)). ((c.get_mut.follows.holds slot).3 some).0 in
     let n = (c.get_mut.follows.lender slot).entries in
     let put = put_ended c.args.number m n c.in-Some.key old slot c.in-Some-get_mut.ensures.value c.end_at.ensures written in
-    rw (← c.self.view_is) (λ chains all.
-    put_true chains m n c.in-Some.key _ (ended_slot_true c.args.number chains old (found_true chains m c.in-Some.key old c.in-Some-get_mut.ensures.value all)) put all)
+    rw (← c.self.view_is) (λ chains floor all.
+    put_true floor chains m n c.in-Some.key _ (ended_slot_true c.args.number floor chains old (found_true floor chains m c.in-Some.key old c.in-Some-get_mut.ensures.value all)) put all)
 
 pub returns-clause-region : goal.returns-clause-region
 returns-clause-region c =

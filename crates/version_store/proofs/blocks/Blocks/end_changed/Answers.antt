@@ -6,7 +6,7 @@ loop-cell-preserved-then-not-is_done c = record {
   ended = gone_more c.args.number c.args.changes.now.cells c.loop-cell.cell-iterator c.next.new.self c.in-Some.cell.now _ c.loop-cell.self c.end_at-done.new.self
       c.in-Some.ensures.steps c.loop-cell.invariant.ended c.end_at-done.ensures.ended c.end_at-done.ensures.others;
   done = c.end_at-done.ensures.region;
-  stays = λ chains all. c.end_at-done.ensures.stays chains (c.loop-cell.invariant.stays chains all);
+  stays = λ chains floor all. c.end_at-done.ensures.stays chains floor (c.loop-cell.invariant.stays chains floor all);
 }
 
 pub loop-cell-preserved : goal.loop-cell-preserved

@@ -1,4 +1,3 @@
-use Rattle.std.proofs.Common.{◌≡◌}
 use Rattle.prog_tree.specs.Table.{Cells}
 use Rattle.std.specs.Prelude.{IfSome}
 use Rattle.prog_tree.specs.declared.cell.Region.{Region}

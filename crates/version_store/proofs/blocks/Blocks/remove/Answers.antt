@@ -6,4 +6,4 @@ pub invariant_of-self : goal.invariant_of-self
 invariant_of-self c = apart_taken c.self.inside.slots.entries c.remove.new.self.entries c.args.key.now c.remove.ensures.updates.0 c.self.invariant
 
 pub returns : goal.returns
-returns c = rw (← c.self.view_is) (λ chains all. taken_true chains c.self.inside.slots.entries c.remove.new.self.entries c.args.key.now c.remove.ensures.updates.0 all)
+returns c = rw (← c.self.view_is) (λ chains floor all. taken_true floor chains c.self.inside.slots.entries c.remove.new.self.entries c.args.key.now c.remove.ensures.updates.0 all)

@@ -15,7 +15,7 @@ use Rattle.version_store.proofs.blocks.Blocks.scan.Goals as goal
 pub returns-in_default : goal.returns-in_default
 returns-in_default c =
     IfOk-weaker c.from_pieces.result _ _
-    (λ rows is rise holds. none_seen c.args.region.now c.args.start c.args.chains.now c.in_default.ensures rows (is ∙ ap rows_of c.new-pieces.ensures.items))
+    (λ rows is rise floor above holds. none_seen c.args.region.now c.args.start c.args.chains.now c.in_default.ensures rows (is ∙ ap rows_of c.new-pieces.ensures.items))
     c.from_pieces.ensures
 
 pub loop-slot-init : goal.loop-slot-init
@@ -27,7 +27,7 @@ loop-slot-init c =
     ∙ (λ i. filter (λ (e : Cell × Slot). is_between (ends.start i) (ends.end i) e.0) slots) in
     rw (← c.self.view_is, c.new-pieces.ensures.items) (record {
       among = left_first (is_between c.in-Some.low c.in-Some.high) slots c.into_iter-slot-iterator.result c.range-slot-items.ensures.ordered between;
-      shares = λ rise holds. refl;
+      shares = λ rise floor above holds. refl;
     })
 
 pub loop-slot-preserved-in-Some-rows_inside : goal.loop-slot-preserved-in-Some-rows_inside
@@ -41,12 +41,12 @@ loop-slot-preserved-in-Some-rows_inside c =
     let steps = c.in-Some-2.ensures.steps in
     rw (c.part_behind-left.ensures, c.in_ok-push.ensures.items, c.in_ok-share.ensures) (record {
       among = left_more slots c.loop-slot.slot-iterator c.next.new.self key slot steps among;
-      shares = λ rise holds.
-          shares_more c.args.region.now c.loop-slot.left start chains slot c.in-Some-rows_inside.rows.now c.loop-slot.pieces.items c.push_scan.new.pieces.items c.read_order.ensures
+      shares = λ rise floor above holds.
+          shares_more c.args.region.now c.loop-slot.left start floor above chains slot c.in-Some-rows_inside.rows.now c.loop-slot.pieces.items c.push_scan.new.pieces.items c.read_order.ensures
           c.in-Some-rows_inside.ensures.part c.in-Some-rows_inside.ensures.rows
-          (found_true chains slots key slot (sym (left_here slots c.loop-slot.slot-iterator c.next.new.self key slot steps among)) holds)
+          (found_true floor chains slots key slot (sym (left_here slots c.loop-slot.slot-iterator c.next.new.self key slot steps among)) holds)
           (λ m seen. c.in_ok-push_scan.ensures rise m (subst (λ (r : Region). IsSeen (seen_in r start) chains m) (sym c.part_before-before.ensures) seen))
-          (c.loop-slot.invariant.shares rise holds);
+          (c.loop-slot.invariant.shares rise floor above holds);
     })
 
 pub loop-slot-preserved : goal.loop-slot-preserved
@@ -59,8 +59,8 @@ pub returns : goal.returns
 returns c =
     let chains = c.args.chains.now in
     IfOk-weaker c.from_pieces-2.result _ _
-    (λ rows is rise holds.
+    (λ rows is rise floor above holds.
     subst (λ (m : TableState). IsSeen (seen_in c.args.region.now c.args.start) chains m) (sym is)
     (shared c.args.region.now c.loop-slot.left c.args.start chains c.loop-slot.pieces.items c.push_scan-2.new.pieces.items c.read_order.ensures
-    (λ m seen. c.in_ok-push_scan-2.ensures rise m seen) (c.loop-slot.invariant.shares rise holds)))
+    (λ m seen. c.in_ok-push_scan-2.ensures rise m seen) (c.loop-slot.invariant.shares rise floor above holds)))
     c.from_pieces-2.ensures

@@ -11,7 +11,7 @@ use Rattle.version_store.proofs.ShareLaws.{none_seen}
 use Rattle.version_store.proofs.chains.Chains.block_of.Goals as goal
 
 pub returns-in_default : goal.returns-in_default
-returns-in_default c = λ rise n since below. none_seen c.args.region.now n c.args.self.now c.in_default.ensures _ (c.in_ok-block.ensures.rows ∙ c.in_ok-rows.ensures.items)
+returns-in_default c = λ rise n above since below. none_seen c.args.region.now n c.args.self.now c.in_default.ensures _ (c.in_ok-block.ensures.rows ∙ c.in_ok-rows.ensures.items)
 
 pub loop-cell-init : goal.loop-cell-init
 loop-cell-init c =
@@ -35,7 +35,7 @@ loop-cell-preserved c = λ rise n since below.
     (λ rises. c.in_ok-push_row.ensures ∙ ap (λ o. c.loop-cell.rows.items ++ row_held cell o) (sym (c.stretch_between-stretch.ensures rises n (since_here, below_here))))
 
 pub returns : goal.returns
-returns c = λ rise n since below.
+returns c = λ rise n above since below.
     let sorted = subst (λ (es : Cells Chain). IsStrictlySortedBy cell_cmp (cells_of es)) c.self.view_is c.range-cell-items.ensures.ordered in
     let since_walked : c.loop-cell.since ≤ n = omega (arith, since, c.in_ok-block-2.ensures.since) in
     let below_walked : n < c.loop-cell.till = omega (arith, below, c.in_ok-block-2.ensures.till) in

@@ -13,9 +13,9 @@ returns c =
     c.are_held.ensures (all_rise _ opening ws stands) (rows_left c.args.region.now c.args.own.now (state_at opening ws c.args.start))
     (sees_left _ opening ws stands c.args.region.now c.args.own.now c.args.start above))
 
-pub returns-then-are_same_pieces : goal.returns-then-are_same_pieces
-returns-then-are_same_pieces c = λ opening ws stands.
+pub returns-then-has_same_pieces : goal.returns-then-has_same_pieces
+returns-then-has_same_pieces c = λ opening ws stands.
     let rows = rows_in c.args.region.now (state_at opening ws c.args.start) in
     let none : c.args.own.now ≡ [] = c.is_empty.ensures.0 c.if-is_empty.true in
-    let same : rows ≡ c.args.rows.now = c.are_same_pieces.ensures c.if-are_same_pieces.true opening ws stands in
+    let same : rows ≡ c.args.rows.now = c.has_same_pieces.ensures c.if-has_same_pieces.true opening ws stands in
     (λ t. subst (λ own. rows_left c.args.region.now own (state_at opening ws c.args.start) ≡ c.args.rows.now) (sym none) (none_left_out rows ∙ same), λ e. refl)

@@ -1,6 +1,7 @@
 use Rattle.std.proofs.Common.{◌≡◌, ◌∙◌, ◌+◌, take, length, refl, ap}
 use Rattle.version_store.proofs.StandsLaws.{stands-push, stands-kept}
 use Rattle.version_store.proofs.EndLaws.{true_behind}
+use Rattle.version_store.proofs.SoundLaws.{committed_rise, committed_below}
 use Rattle.version_store.proofs.store.Store.install.Goals as goal
 
 pub returns-in_default-add_commit-clause-err_stands : goal.returns-in_default-add_commit-clause-err_stands
@@ -17,6 +18,11 @@ returns-clause-stands c =
     stands-push _ _ opening ws c.args.changes.now stands c.iter.ensures.ordered c.in-Ok.ensures.ok c.add_commit.ensures.hold c.in_ok-add.ensures.ok refl refl versions)
 
 pub invariant_of-self-2 : goal.invariant_of-self-2
-invariant_of-self-2 c = λ rise.
-    true_behind _ c.args.changes.now c.self.inside.chains c.add_commit.new.self c.end_changed.new.self c.in-Ok.ensures.ok c.end_changed.ensures.ended
-    (λ rose. c.end_changed.ensures.stays _ (c.self.invariant rose)) rise
+invariant_of-self-2 c =
+    let before = c.self.inside.chains in
+    let made = c.in-Ok.ensures.ok in (
+      committed_rise _ c.args.changes.now before c.add_commit.new.self made c.self.invariant.1 c.self.invariant.0,
+      committed_below _ c.args.changes.now before c.add_commit.new.self made c.self.invariant.1,
+      true_behind c.self.inside.floor _ c.args.changes.now before c.add_commit.new.self c.end_changed.new.self made c.end_changed.ensures.ended
+          (c.end_changed.ensures.stays before c.self.inside.floor c.self.invariant.2),
+    )

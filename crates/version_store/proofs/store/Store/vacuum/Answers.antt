@@ -3,6 +3,7 @@ use Rattle.prog_tree.specs.ChangeSet.{ChangeSet}
 use Rattle.prog_tree.specs.Table.{TableState}
 use Rattle.version_store.specs.StandsFor.{StoreView, StandsFor}
 use Rattle.version_store.specs.Versions.{reclaimed}
+use Rattle.version_store.proofs.SoundLaws.{trim_rises, trim_below, trim_true}
 use Rattle.version_store.proofs.StandsLaws.{stands-vacuum}
 use Rattle.version_store.proofs.store.Store.vacuum.Goals as goal
 
@@ -36,3 +37,14 @@ returns c =
       commits = refl;
       stands = λ opening ws stands. (both opening ws stands).0;
     })
+
+pub invariant_of-self : goal.invariant_of-self
+invariant_of-self c =
+    let before = c.self.inside.chains in
+    let after = c.vacuum-count.new.self in
+    let trims = c.vacuum-count.ensures.each in
+    let rises = rw (← c.self.view_is) at c.requires.rises in (
+      trim_rises c.args.floor before after trims c.self.invariant.0,
+      trim_below c.args.floor c.self.inside.commits before after trims c.self.invariant.1,
+      c.limit.ensures after c.args.floor (trim_true c.self.inside.floor c.args.floor before after c.self.inside.blocks rises trims c.self.invariant.2),
+    )
