@@ -281,6 +281,7 @@ fn rows_in_pieces_outlive_the_look_that_found_them(rt: HostRuntime) -> Result<()
     assert!(rt; first.len() == 2 && first.total() == 13);
     let none = RowPieces::from_list(Sequence::new(rt.alloc()))?;
     assert!(rt; none.is_empty() && none.walk().is_empty());
+    assert!(rt; again.has_same_pieces(&again) && !again.has_same_pieces(&none));
     Ok(())
 }
 

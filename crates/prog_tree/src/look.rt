@@ -27,7 +27,7 @@ fn is_same_row(row: &(Cell, i64), other: &(Cell, i64)) -> bool
 }
 
 // The rows may be cut into pieces in different ways.
-fn same_rows(rows: &RowPieces, others: &RowPieces) -> bool
+fn same_row_by_row(rows: &RowPieces, others: &RowPieces) -> bool
     ensures { IsTrue result ↔ (rows.now ≡ others.now) }
 {
     let mut left = rows.walk();
@@ -43,6 +43,12 @@ fn same_rows(rows: &RowPieces, others: &RowPieces) -> bool
         right = right_behind;
     }
     right.is_empty()
+}
+
+fn same_rows(rows: &RowPieces, others: &RowPieces) -> bool
+    ensures { IsTrue result ↔ (rows.now ≡ others.now) }
+{
+    rows.has_same_pieces(others) || same_row_by_row(rows, others)
 }
 
 impl Look {

@@ -11,6 +11,7 @@ pub mod FoundLaws
 pub mod HoldLaws
 pub mod NewestLaws
 pub mod OpeningLaws
+pub mod PartLaws
 pub mod PendingLaws
 pub mod RisingLaws
 pub mod ScanLaws

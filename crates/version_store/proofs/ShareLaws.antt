@@ -12,7 +12,7 @@ use Rattle.prog_tree.proofs.CellSets.{same-itself, none-behind}
 use Rattle.prog_tree.proofs.TableStates.{same_state}
 use Rattle.prog_tree.specs.Corners.{AreCorners}
 use Rattle.version_store.specs.declared.block.Slot.{Slot}
-use Rattle.version_store.specs.Blocks.{IsTrueSlot, IsOfSlot, IsPart, part_before, part_between, part_behind}
+use Rattle.version_store.specs.Blocks.{IsTrueSlot, IsBySlot, IsPart, part_before, part_between, part_behind}
 use Rattle.version_store.specs.Regions.{seen_in, IsSeen}
 use Rattle.version_store.specs.StandsFor.{Chain}
 use Rattle.version_store.proofs.FoundLaws.{found_rows, is_seen, found_is, no_chain_in, cells-filter, at_cell-filter, gained_nothing}
@@ -39,26 +39,26 @@ rows_are region n chains sorted = found_is (seen_in region n) (no_chain_in regio
 
 -- the rows before a slot are read, and its own are shared
 pub shares_more :
-    (region left : Region) (n floor : ℕ) → floor ≤ n → (chains : Cells Chain) (slot : Slot) (rows : TableState) (old read : List TableState) → IsStrictlySortedBy cell_cmp (cells_of chains) →
-    IsPart slot.region left → IsOfSlot n slot rows → IsTrueSlot floor chains slot →
-    ((m : TableState) → IsSeen (seen_in (part_before left slot.region.first_low) n) chains m → rows_of read ≡ rows_of old ++ m) →
-    Shares region n chains left old → Shares region n chains (part_behind left slot.region.first_high) (read ++ rows ∷ [])
-shares_more region left n floor above chains slot rows old read sorted part of_slot holds reads so_far =
-    ap (λ more. more ++ behind) (rows_of-push read rows ∙ ap (λ more. more ++ rows) (reads before (seen_rows (part_before left slot.region.first_low) n chains sorted)))
+    (region left part : Region) (n floor : ℕ) → floor ≤ n → (chains : Cells Chain) (slot : Slot) (rows : TableState) (old read : List TableState) → IsStrictlySortedBy cell_cmp (cells_of chains) →
+    IsPart part left → IsBySlot n slot part rows → IsTrueSlot floor chains slot →
+    ((m : TableState) → IsSeen (seen_in (part_before left part.first_low) n) chains m → rows_of read ≡ rows_of old ++ m) →
+    Shares region n chains left old → Shares region n chains (part_behind left part.first_high) (read ++ rows ∷ [])
+shares_more region left part n floor above chains slot rows old read sorted is_part by_slot holds reads so_far =
+    ap (λ more. more ++ behind) (rows_of-push read rows ∙ ap (λ more. more ++ rows) (reads before (seen_rows (part_before left part.first_low) n chains sorted)))
     ∙ append_assoc (rows_of old ++ before) rows behind
     ∙ append_assoc (rows_of old) before (rows ++ behind)
     ∙ ap (λ more. rows_of old ++ (before ++ (more ++ behind))) (sym is_own)
-    ∙ ap (λ more. rows_of old ++ more) (sym (split_part left n slot.region.first_low slot.region.first_high chains part.1.0 part.1.1 part.1.2 sorted))
+    ∙ ap (λ more. rows_of old ++ more) (sym (split_part left n part.first_low part.first_high chains is_part.1.0 is_part.1.1 is_part.1.2 sorted))
     ∙ so_far
   where
     before : TableState
-    before = found_rows (seen_in (part_before left slot.region.first_low) n) chains
+    before = found_rows (seen_in (part_before left part.first_low) n) chains
 
     behind : TableState
-    behind = found_rows (seen_in (part_behind left slot.region.first_high) n) chains
+    behind = found_rows (seen_in (part_behind left part.first_high) n) chains
 
-    is_own : found_rows (seen_in (part_between left slot.region.first_low slot.region.first_high) n) chains ≡ rows
-    is_own = ap (λ r. found_rows (seen_in r n) chains) (sym part.0) ∙ rows_are slot.region n chains sorted rows (of_slot floor above chains holds)
+    is_own : found_rows (seen_in (part_between left part.first_low part.first_high) n) chains ≡ rows
+    is_own = ap (λ r. found_rows (seen_in r n) chains) (sym is_part.0) ∙ rows_are part n chains sorted rows (by_slot floor above chains holds)
 
 -- at the end what is left is read
 pub shared :

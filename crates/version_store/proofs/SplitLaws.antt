@@ -20,7 +20,7 @@ use Rattle.version_store.proofs.FoundLaws.{found_rows, outside_region}
 
 -- ---- tests of numbers
 
-is_le : (x y : ℤ) → x ≤ℤ y → int_le x y ≡ true
+pub is_le : (x y : ℤ) → x ≤ℤ y → int_le x y ≡ true
 is_le x y h = go (int_le x y) refl
   where
     go : (b : Bool) → int_le x y ≡ b → b ≡ true

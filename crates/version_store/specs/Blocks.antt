@@ -29,6 +29,14 @@ SeesIn region stretch c chain = (n : ℕ) → InStretch stretch n → seen_betwe
 
 -- ---- what blocks say of chains
 
+-- a block says what is after n commits
+abbrev pub SaysOf : (n : ℕ) → Block → Type 0
+SaysOf n block = (block.since ≤ n) × (n < block.till)
+
+-- no older block does
+abbrev pub IsSilent : (n : ℕ) → Option Block → Type 0
+IsSilent n older = IfSome older (λ block. SaysOf n block → ⊥)
+
 -- a block has the rows of a region after each number of commits from a floor on, from `since` on and below `till`
 abbrev pub IsTrueBlock : (floor : ℕ) → Cells Chain → Region → Block → Type 0
 IsTrueBlock floor chains region block =
@@ -58,10 +66,14 @@ IsOfOlder n older rows =
     (floor : ℕ) → floor ≤ n → (chains : Cells Chain) → (region : Region) → IfSome older (IsTrueBlock floor chains region) →
     IsSeen (seen_in region n) chains rows
 
--- rows are those of a slot after a number of commits, if the slot is true from no later floor on
+-- rows are those of a region after a number of commits, if a slot is true from no later floor on
+abbrev pub IsBySlot : (n : ℕ) → Slot → Region → TableState → Type 0
+IsBySlot n slot region rows =
+    (floor : ℕ) → floor ≤ n → (chains : Cells Chain) → IsTrueSlot floor chains slot → IsSeen (seen_in region n) chains rows
+
+-- rows are those of the slot's own region
 abbrev pub IsOfSlot : (n : ℕ) → Slot → TableState → Type 0
-IsOfSlot n slot rows =
-    (floor : ℕ) → floor ≤ n → (chains : Cells Chain) → IsTrueSlot floor chains slot → IsSeen (seen_in slot.region n) chains rows
+IsOfSlot n slot rows = IsBySlot n slot slot.region rows
 
 -- ---- blocks that end
 

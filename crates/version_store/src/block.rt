@@ -1,8 +1,8 @@
 //! Blocks: the rows of some cells, which scans share.
-ghost use Rattle.std.specs.Prelude.{◌≡◌, ◌≤◌, ◌<◌, ℕ, IfSome, IsTrue, option_map};
+ghost use Rattle.std.specs.Prelude.{◌≡◌, ◌↔◌, ℕ, None, IfSome, IsTrue, option_map};
 ghost use Rattle.prog_tree.specs.Table.{Cells};
 ghost use Rattle.version_store.specs.Blocks.{IsTrueBlock, IsTrueSlot, IsOfOlder, IsOfSlot};
-ghost use Rattle.version_store.specs.Blocks.{ended, ended_slot};
+ghost use Rattle.version_store.specs.Blocks.{IsSilent, SaysOf, ended, ended_slot};
 ghost use Rattle.version_store.specs.StandsFor.{Chain};
 
 use prog_tree::{Piece, Region};
@@ -27,8 +27,7 @@ pub struct Slot {
 impl Block {
     // Whether it says what is after the first `start` commits.
     fn is_of(&self, start: u64) -> bool
-        ensures since { IsTrue result → self.now.since ≤ start }
-        ensures till { IsTrue result → start < self.now.till }
+        ensures { IsTrue result ↔ SaysOf start self.now }
     {
         self.since <= start && start < self.till
     }
@@ -52,7 +51,8 @@ fn end_older(older: &mut Option<Block>, number: u64)
 
 // The rows of an older block after the first `start` commits, if it has them.
 fn rows_of_older(older: &Option<Block>, start: u64) -> Option<&Piece>
-    ensures { IfSome result (λ rows. IsOfOlder start older.now rows.now) }
+    ensures rows { IfSome result (λ rows. IsOfOlder start older.now rows.now) }
+    ensures none { result ≡ None → IsSilent start older.now }
 {
     let block = older.as_ref()?;
     if block.is_of(start) {
@@ -65,7 +65,9 @@ fn rows_of_older(older: &Option<Block>, start: u64) -> Option<&Piece>
 impl Slot {
     /// The rows of its cells after the first `start` commits, if it has them.
     pub fn rows_at(&self, start: u64) -> Option<&Piece>
-        ensures { IfSome result (λ rows. IsOfSlot start self.now rows.now) }
+        ensures rows { IfSome result (λ rows. IsOfSlot start self.now rows.now) }
+        ensures none { result ≡ None →
+            (SaysOf start self.now.newest → ⊥) × IsSilent start self.now.older }
     {
         if self.newest.is_of(start) {
             return Some(&self.newest.rows);

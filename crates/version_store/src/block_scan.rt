@@ -2,16 +2,16 @@
 ghost use Rattle.std.specs.Prelude.{◌≡◌, ◌++◌, ◌≤◌, ◌<ℤ◌, ℕ, IfOk, IfSome, IsTrue, OnOk};
 ghost use Rattle.prog_tree.specs.Number.{least, greatest};
 ghost use Rattle.prog_tree.specs.Pieces.{rows_of};
-ghost use Rattle.prog_tree.specs.Table.{TableState};
-ghost use Rattle.version_store.specs.Blocks.{AreEnds, AreTrue, IsOfSlot, IsPart};
+ghost use Rattle.prog_tree.specs.Table.{TableState, rows_in};
+ghost use Rattle.version_store.specs.Blocks.{AreEnds, AreTrue, IsBySlot, IsPart};
 ghost use Rattle.version_store.specs.Blocks.{part_before, part_behind, part_between};
 ghost use Rattle.version_store.specs.Reading.{AllRise};
 ghost use Rattle.version_store.specs.Regions.{seen_in, IsSeen};
 
 use crate::block::Slot;
-use crate::blocks::Blocks;
+use crate::blocks::{Blocks, stands_behind};
 use crate::chains::Chains;
-use prog_tree::{Piece, Region, RowPieces};
+use prog_tree::{Cell, Piece, Region, RowPieces};
 use std::alloc::{AllocError, Global};
 
 // The part of a region between two ends.
@@ -63,16 +63,81 @@ fn is_part(inner: &Region, region: &Region) -> bool
     are_ends(region, low, high) && inner.is_same(&part_between(region, low, high))
 }
 
-impl Slot {
-    // Its rows after the first `start` commits, if it has them and is of a part of a region.
-    fn rows_inside(&self, start: u64, region: &Region) -> Option<&Piece>
-        ensures part { IfSome result (λ rows. IsPart self.now.region region.now) }
-        ensures rows { IfSome result (λ rows. IsOfSlot start self.now rows.now) }
-    {
-        if !is_part(&self.region, region) {
-            return None;
+// The part that two regions have in common, if they have one.
+fn common_part(one: &Region, other: &Region) -> Option<Region>
+    ensures one { IfSome result (λ part. IsPart part one.now) }
+    ensures other { IfSome result (λ part. IsPart part other.now) }
+{
+    let low = one.first_low.max(other.first_low);
+    let high = one.first_high.min(other.first_high);
+    let part = part_between(other, low, high);
+    if is_part(&part, one) && is_part(&part, other) {
+        Some(part)
+    } else {
+        None
+    }
+}
+
+// The rows whose cells lie in a region.
+fn rows_within(alloc: Global, rows: &[(Cell, i64)], region: &Region) -> Result<Piece, AllocError>
+    ensures { IfOk result (λ piece. piece ≡ rows_in region.now rows.now) }
+{
+    let mut kept = Vec::with_capacity(alloc, rows.len())?;
+    for row in rows {
+        if region.contains(&row.0) {
+            kept.push(*row)?;
         }
-        self.rows_at(start)
+    }
+    kept.shrink_to_fit();
+    Piece::new(alloc, kept)
+}
+
+/// The rows of a part of a region.
+#[derive(Drop)]
+struct PartRows {
+    part: Region,
+    rows: Piece,
+}
+
+impl Slot {
+    // Its rows after the first `start` commits in a part of its region, if it has them.
+    fn rows_of_part(
+        &self,
+        alloc: Global,
+        start: u64,
+        part: &Region,
+    ) -> Result<Option<Piece>, AllocError>
+        ensures { IfOk result (λ found. IfSome found (λ rows.
+            IsPart part.now self.now.region → IsBySlot start self.now part.now rows)) }
+    {
+        let Some(rows) = self.rows_at(start) else {
+            return Ok(None);
+        };
+        if part.is_same(&self.region) {
+            return Ok(Some(rows.share()?));
+        }
+        Ok(Some(rows_within(alloc, rows.rows(), part)?))
+    }
+
+    // What it has in common with a region, with the rows after the first `start` commits, if it
+    // has them.
+    fn rows_inside(
+        &self,
+        alloc: Global,
+        start: u64,
+        region: &Region,
+    ) -> Result<Option<PartRows>, AllocError>
+        ensures part { IfOk result (λ found. IfSome found (λ inside. IsPart inside.part region.now)) }
+        ensures rows { IfOk result (λ found. IfSome found (λ inside.
+            IsBySlot start self.now inside.part inside.rows)) }
+    {
+        let Some(part) = common_part(&self.region, region) else {
+            return Ok(None);
+        };
+        let Some(rows) = self.rows_of_part(alloc, start, &part)? else {
+            return Ok(None);
+        };
+        Ok(Some(PartRows { part, rows }))
     }
 }
 
@@ -113,16 +178,19 @@ impl Blocks {
     {
         chains.read_order();
         let mut pieces = Vec::new(self.alloc);
-        let Some((low, high)) = region.corners() else {
+        let Some((low, _)) = region.corners() else {
             return RowPieces::from_pieces(self.alloc, pieces);
         };
         let mut left = *region;
-        for (_, slot) in self.slots.range(low..=high) {
-            if let Some(rows) = slot.rows_inside(start, &left) {
-                let before = part_before(&left, &slot.region);
+        for (_, slot) in self.slots.range(low..) {
+            if stands_behind(&slot.region, region) {
+                break;
+            }
+            if let Some(inside) = slot.rows_inside(self.alloc, start, &left)? {
+                let before = part_before(&left, &inside.part);
                 push_scan(&mut pieces, chains, start, &before)?;
-                pieces.push(rows.share()?)?;
-                left = part_behind(&left, &slot.region);
+                pieces.push(inside.rows)?;
+                left = part_behind(&left, &inside.part);
             }
         }
         push_scan(&mut pieces, chains, start, &left)?;

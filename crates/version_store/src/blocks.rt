@@ -35,9 +35,14 @@ impl Model for Blocks {
     ghost invariant = { λ b. AreApart b.slots.entries };
 }
 
+/// Whether the cells of a slot's region all come behind those of a region.
+pub fn stands_behind(slot: &Region, region: &Region) -> bool {
+    slot.table != region.table || slot.first_low > region.first_high
+}
+
 // Whether a cell is one of the region of the slot that was ended last.
 fn is_done(done: &Option<Region>, cell: &Cell) -> bool
-    ensures { IsTrue result → HasCell done.now cell.now }
+    ensures { IsTrue result ↔ HasCell done.now cell.now }
 {
     match done {
         Some(region) => region.contains(cell),

@@ -13,7 +13,6 @@ mod laws;
 mod pending;
 mod rare;
 mod renew;
-mod same_pieces;
 mod scan;
 mod store;
 mod stretch;

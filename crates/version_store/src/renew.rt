@@ -4,7 +4,7 @@ ghost use Rattle.version_store.specs.Blocks.{StaysTrue};
 ghost use Rattle.version_store.specs.Reading.{AllRise};
 
 use crate::block_walk::NEW_CELLS;
-use crate::blocks::Blocks;
+use crate::blocks::{Blocks, stands_behind};
 use crate::chains::Chains;
 use prog_tree::{Cell, Region};
 use std::alloc::AllocError;
@@ -22,11 +22,6 @@ fn is_plain(region: &Region) -> bool {
     region.second_low == 0 && region.second_high == 0
 }
 
-// Whether a part lies in a region.
-fn lies_in(part: &Region, region: &Region) -> bool {
-    region.first_low <= part.first_low && part.first_high <= region.first_high
-}
-
 impl Blocks {
     // The parts of a region for which blocks are to be made: slots that have no block after the
     // first `start` commits, and what is wide enough between slots.
@@ -38,7 +33,7 @@ impl Blocks {
         let mut left = *region;
         for (_, slot) in self.slots.range(low..) {
             let part = slot.region;
-            if part.table != region.table || part.first_low > region.first_high {
+            if stands_behind(&part, region) {
                 break;
             }
             let before = Region {
@@ -48,7 +43,7 @@ impl Blocks {
             if is_wide(&before) {
                 parts.push(before)?;
             }
-            if lies_in(&part, region) && slot.rows_at(start).is_none() {
+            if slot.rows_at(start).is_none() {
                 parts.push(part)?;
             }
             left.first_low = part.first_high.saturating_add(1);

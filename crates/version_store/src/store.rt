@@ -13,7 +13,6 @@ use crate::blocks::Blocks;
 use crate::chains::Chains;
 use crate::clash::{Clash, first_clash};
 use crate::pending::Pending;
-use crate::same_pieces::are_same_pieces;
 use prog_tree::{Cell, Changes, Region, RisingCells, RowPieces, Rows, Sequence};
 use std::alloc::{AllocError, Global};
 use std::marker::Model;
@@ -127,7 +126,7 @@ impl Store {
             rows_in region.now (state_at opening ws start) ≡ rows.now) }
     {
         match self.scan_pieces(start, region) {
-            Ok(found) => are_same_pieces(found.pieces(), rows.pieces()),
+            Ok(found) => found.has_same_pieces(rows),
             Err(_) => false,
         }
     }

@@ -4,7 +4,7 @@ use Rattle.version_store.specs.declared.block.Block.{Block}
 use Rattle.version_store.specs.Blocks.{IsTrueBlock}
 use Rattle.version_store.proofs.block.rows_of_older.Goals as goal
 
-pub returns-then-is_of : goal.returns-then-is_of
-returns-then-is_of c = λ floor above chains region holds.
+pub returns-then-is_of-clause-rows : goal.returns-then-is_of-clause-rows
+returns-then-is_of-clause-rows c = λ floor above chains region holds.
     subst (λ (o : Option Block). IfSome o (IsTrueBlock floor chains region)) (sym c.in_ok-block.ensures.value) holds
-    c.args.start above (c.is_of.ensures.since c.if-is_of.true) (c.is_of.ensures.till c.if-is_of.true)
+    c.args.start above (c.is_of.ensures.0 c.if-is_of.true).0 (c.is_of.ensures.0 c.if-is_of.true).1

@@ -1,4 +1,4 @@
 use Rattle.version_store.proofs.block.Slot.rows_at.Goals as goal
 
-pub returns-then-is_of : goal.returns-then-is_of
-returns-then-is_of c = λ floor above chains holds. holds.0 c.args.start above (c.is_of.ensures.since c.if-is_of.true) (c.is_of.ensures.till c.if-is_of.true)
+pub returns-then-is_of-clause-rows : goal.returns-then-is_of-clause-rows
+returns-then-is_of-clause-rows c = λ floor above chains holds. holds.0 c.args.start above (c.is_of.ensures.0 c.if-is_of.true).0 (c.is_of.ensures.0 c.if-is_of.true).1

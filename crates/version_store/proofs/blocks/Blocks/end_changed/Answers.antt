@@ -12,7 +12,7 @@ loop-cell-preserved-then-not-is_done c = record {
 pub loop-cell-preserved : goal.loop-cell-preserved
 loop-cell-preserved c = record {
   ended = gone_more c.args.number c.args.changes.now.cells c.loop-cell.cell-iterator c.next.new.self c.in-Some.cell.now _ c.loop-cell.self c.loop-cell.self
-      c.in-Some.ensures.steps c.loop-cell.invariant.ended (done_ends c.args.number c.loop-cell.done c.loop-cell.self c.in-Some.cell.now c.loop-cell.invariant.done (c.is_done.ensures c.if-not-is_done.false))
+      c.in-Some.ensures.steps c.loop-cell.invariant.ended (done_ends c.args.number c.loop-cell.done c.loop-cell.self c.in-Some.cell.now c.loop-cell.invariant.done (c.is_done.ensures.0 c.if-not-is_done.false))
       (λ cell ended. ended);
   done = c.loop-cell.invariant.done;
   stays = c.loop-cell.invariant.stays;

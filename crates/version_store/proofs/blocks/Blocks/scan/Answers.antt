@@ -1,13 +1,15 @@
 use Rattle.std.proofs.Common.{◌≡◌, ◌∙◌, refl, ap, subst, sym}
-use Rattle.std.specs.Prelude.{filter}
+use Rattle.std.specs.Prelude.{Option, IfSome, filter}
 use Rattle.std.proofs.lemmas.Result.{IfOk-weaker}
 use Rattle.prog_tree.specs.declared.cell.Cell.{Cell}
 use Rattle.prog_tree.specs.declared.cell.Region.{Region}
-use Rattle.prog_tree.specs.Corners.{is_between}
 use Rattle.prog_tree.specs.Pieces.{rows_of}
 use Rattle.prog_tree.specs.Table.{TableState}
 use Rattle.version_store.specs.declared.block.Slot.{Slot}
+use Rattle.version_store.specs.declared.block_scan.PartRows.{PartRows}
+use Rattle.version_store.specs.Blocks.{IsBySlot, IsPart}
 use Rattle.version_store.specs.Regions.{seen_in, IsSeen}
+use Rattle.version_store.proofs.ApartLaws.{is_from}
 use Rattle.version_store.proofs.BlockLaws.{found_true}
 use Rattle.version_store.proofs.ShareLaws.{left_first, left_here, left_more, none_seen, shares_more, shared}
 use Rattle.version_store.proofs.blocks.Blocks.scan.Goals as goal
@@ -21,29 +23,30 @@ returns-in_default c =
 pub loop-slot-init : goal.loop-slot-init
 loop-slot-init c =
     let slots = c.self.inside.slots.entries in
-    let ends = c.new.ensures in
-    let between : c.into_iter-slot-iterator.result ≡ filter (λ (e : Cell × Slot). is_between c.in-Some.low c.in-Some.high e.0) slots =
-    c.into_iter-slot-iterator.ensures.into_iter_gives ∙ c.range-slot-items.ensures.between ends.exhausted
-    ∙ (λ i. filter (λ (e : Cell × Slot). is_between (ends.start i) (ends.end i) e.0) slots) in
+    let between : c.into_iter-slot-iterator.result ≡ filter (λ (e : Cell × Slot). is_from c.in-Some.low e.0) slots =
+    c.into_iter-slot-iterator.ensures.into_iter_gives ∙ c.range-slot-items.ensures.between tt in
     rw (← c.self.view_is, c.new-pieces.ensures.items) (record {
-      among = left_first (is_between c.in-Some.low c.in-Some.high) slots c.into_iter-slot-iterator.result c.range-slot-items.ensures.ordered between;
+      among = left_first (is_from c.in-Some.low) slots c.into_iter-slot-iterator.result c.range-slot-items.ensures.ordered between;
       shares = λ rise floor above holds. refl;
     })
 
-pub loop-slot-preserved-in-Some-rows_inside : goal.loop-slot-preserved-in-Some-rows_inside
-loop-slot-preserved-in-Some-rows_inside c =
+pub loop-slot-preserved-in-Some-3 : goal.loop-slot-preserved-in-Some-3
+loop-slot-preserved-in-Some-3 c =
     let slots = c.args.self.now in
     let chains = c.args.chains.now in
     let start = c.args.start in
     let slot = c.in-Some-2.slot.now in
     let key = c.in-Some-2.field-0-0.now in
+    let inside = c.in-Some-3.inside in
+    let is_part = subst (λ (o : Option PartRows). IfSome o (λ (x : PartRows). IsPart x.part c.loop-slot.left)) c.in-Some-3.is c.in_ok-inside.ensures.part in
+    let by_slot = subst (λ (o : Option PartRows). IfSome o (λ (x : PartRows). IsBySlot start slot x.part x.rows)) c.in-Some-3.is c.in_ok-inside.ensures.rows in
     let among = c.loop-slot.invariant.among in
     let steps = c.in-Some-2.ensures.steps in
-    rw (c.part_behind-left.ensures, c.in_ok-push.ensures.items, c.in_ok-share.ensures) (record {
+    rw (c.part_behind-left.ensures, c.in_ok-push.ensures.items) (record {
       among = left_more slots c.loop-slot.slot-iterator c.next.new.self key slot steps among;
       shares = λ rise floor above holds.
-          shares_more c.args.region.now c.loop-slot.left start floor above chains slot c.in-Some-rows_inside.rows.now c.loop-slot.pieces.items c.push_scan.new.pieces.items c.read_order.ensures
-          c.in-Some-rows_inside.ensures.part c.in-Some-rows_inside.ensures.rows
+          shares_more c.args.region.now c.loop-slot.left inside.part start floor above chains slot inside.rows c.loop-slot.pieces.items c.push_scan.new.pieces.items c.read_order.ensures
+          is_part by_slot
           (found_true floor chains slots key slot (sym (left_here slots c.loop-slot.slot-iterator c.next.new.self key slot steps among)) holds)
           (λ m seen. c.in_ok-push_scan.ensures rise m (subst (λ (r : Region). IsSeen (seen_in r start) chains m) (sym c.part_before-before.ensures) seen))
           (c.loop-slot.invariant.shares rise floor above holds);

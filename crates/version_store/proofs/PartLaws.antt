@@ -1,0 +1,77 @@
+-- The rows of a part of a region.
+use Rattle.std.proofs.Common.{◌≡◌, ◌∙◌, ℕ, ◌+◌, ◌<◌, ℤ, ◌≤ℤ◌, Bool, true, false, cond, ◌==◌, ◌&&◌, [], ◌∷◌, ◌++◌, length, drop, get_or, refl, ap, sym, subst, arith, add-one, append_assoc, drop-cons}
+use Rattle.std.specs.Prelude.{Option, Some, None, int_le}
+use Rattle.std.proofs.lemmas.Bool.{and_parts}
+use Rattle.std.proofs.lemmas.Int.{ints}
+use Rattle.prog_tree.specs.declared.cell.Cell.{Cell}
+use Rattle.prog_tree.specs.declared.cell.Region.{Region}
+use Rattle.prog_tree.specs.Table.{Cells, is_in, lies_between, rows_in, row_at, TableState}
+use Rattle.prog_tree.proofs.TableStates.{IsTableState-rows_in, row_at-where}
+use Rattle.version_store.specs.declared.block.Slot.{Slot}
+use Rattle.version_store.specs.Blocks.{IsBySlot, IsOfSlot, IsPart, IsTrueSlot, part_between}
+use Rattle.version_store.specs.Reading.{chain_at, value_at}
+use Rattle.version_store.specs.Regions.{seen_in, IsSeen}
+use Rattle.version_store.specs.StandsFor.{Chain}
+use Rattle.version_store.proofs.SplitLaws.{is_le}
+
+-- ---- the rows that are kept
+
+-- from one row on
+from_row : (region : Region) (rows : TableState) (i : ℕ) (d row : Cell × ℤ) (b : Bool) → i < length rows → row ≡ get_or rows i d → is_in region row.0 ≡ b →
+    rows_in region (drop i rows) ≡ cond b (row ∷ rows_in region (drop (i + 1) rows)) (rows_in region (drop (i + 1) rows))
+from_row region rows i d row b lt e inside =
+    let split : drop i rows ≡ get_or rows i d ∷ drop (i + 1) rows = rw add-one (drop-cons rows i d lt) in
+    ap (rows_in region) (split ∙ ap (λ r. r ∷ drop (i + 1) rows) (sym e))
+    ∙ ap (λ t. cond t (row ∷ rows_in region (drop (i + 1) rows)) (rows_in region (drop (i + 1) rows))) inside
+
+-- with the kept rows of what is left, those that were kept are all that are to be kept
+abbrev pub Keeps : Region → (rows : TableState) → (i : ℕ) → (kept : TableState) → Type 0
+Keeps region rows i kept = kept ++ rows_in region (drop i rows) ≡ rows_in region rows
+
+pub keeps_row : (region : Region) (rows : TableState) (i : ℕ) (d row : Cell × ℤ) (kept : TableState) → i < length rows → row ≡ get_or rows i d → is_in region row.0 ≡ true →
+    Keeps region rows i kept → Keeps region rows (i + 1) (kept ++ row ∷ [])
+keeps_row region rows i d row kept lt e inside so_far =
+    append_assoc kept (row ∷ []) (rows_in region (drop (i + 1) rows)) ∙ ap (λ more. kept ++ more) (sym (from_row region rows i d row true lt e inside)) ∙ so_far
+
+pub leaves_row : (region : Region) (rows : TableState) (i : ℕ) (d row : Cell × ℤ) (kept : TableState) → i < length rows → row ≡ get_or rows i d → is_in region row.0 ≡ false →
+    Keeps region rows i kept → Keeps region rows (i + 1) kept
+leaves_row region rows i d row kept lt e outside so_far = ap (λ more. kept ++ more) (sym (from_row region rows i d row false lt e outside)) ∙ so_far
+
+-- ---- a part of a region
+
+-- what lies in a part lies in the region
+in_part : (part region : Region) (c : Cell) → IsPart part region → is_in part c ≡ true → is_in region c ≡ true
+in_part part region c is_part inside =
+    ap (λ b. (region.table == c.table) && (b && lies_between region.second_low c.second region.second_high)) firsts ∙ here
+  where
+    here : ((region.table == c.table) && (lies_between part.first_low c.first part.first_high && lies_between region.second_low c.second region.second_high)) ≡ true
+    here = sym (ap (λ r. is_in r c) is_part.0) ∙ inside
+
+    between : lies_between part.first_low c.first part.first_high ≡ true
+    between = (and_parts (lies_between part.first_low c.first part.first_high) _ (and_parts (region.table == c.table) _ here).1).0
+
+    firsts : lies_between region.first_low c.first region.first_high ≡ lies_between part.first_low c.first part.first_high
+    firsts =
+        let low = (and_parts (int_le part.first_low c.first) _ between).0 in
+        let high = (and_parts (int_le part.first_low c.first) _ between).1 in
+        let first = is_le region.first_low c.first (omega (arith, ints, low, is_part.1.0)) in
+        let last = is_le c.first region.first_high (omega (arith, ints, high, is_part.1.2)) in
+        (λ i. first i && last i) ∙ sym between
+
+-- the rows of a slot that lie in a part of its region
+pub by_part : (n : ℕ) (slot : Slot) (part : Region) (rows : TableState) → IsPart part slot.region → IsOfSlot n slot rows → IsBySlot n slot part (rows_in part rows)
+by_part n slot part rows is_part of_slot floor above chains holds = (
+  IsTableState-rows_in part rows seen.0,
+  λ c. row_at-where (is_in part) rows c ∙ ap (λ o. cond (is_in part c) o None) (seen.1 c) ∙ go c (is_in part c) refl,
+)
+  where
+    seen : IsSeen (seen_in slot.region n) chains rows
+    seen = of_slot floor above chains holds
+
+    go : (c : Cell) (b : Bool) → is_in part c ≡ b → cond b (seen_in slot.region n c (chain_at chains c)) None ≡ cond b (value_at n (chain_at chains c)) None
+    go c true inside = ap (λ t. cond t (value_at n (chain_at chains c)) None) (in_part part slot.region c is_part inside)
+    go c false outside = refl
+
+-- all rows of a slot
+pub by_whole : (n : ℕ) (slot : Slot) (part : Region) (rows : TableState) → part ≡ slot.region → IsOfSlot n slot rows → IsBySlot n slot part rows
+by_whole n slot part rows same of_slot = subst (λ (r : Region). IsBySlot n slot r rows) (sym same) of_slot
