@@ -1,5 +1,5 @@
 -- What a store knows of itself: its versions rise, no number is above that of its last commit, and its blocks are true from its floor on.
-use Rattle.std.proofs.Common.{◌≡◌, ◌∙◌, ℕ, suc, ◌+◌, ◌≤◌, ◌<◌, ◌⊎◌, inl, inr, Bool, true, false, cond, if◌then◌else◌, List, [], ◌∷◌, ◌++◌, refl, ap, sym, subst, arith}
+use Rattle.std.proofs.Common.{◌≡◌, ◌∙◌, ℕ, suc, ◌+◌, ◌≤◌, ◌<◌, inl, inr, Bool, true, false, cond, if◌then◌else◌, List, [], ◌∷◌, ◌++◌, refl, ap, sym, subst, arith}
 use Rattle.std.specs.Prelude.{ℤ, Option, Some, None, IfSome, filter, nat_lt}
 use Rattle.std.proofs.lemmas.Bool.{le-leb}
 use Rattle.std.proofs.lemmas.Bool.Decides.{nat_tests}
@@ -11,9 +11,9 @@ use Rattle.prog_tree.specs.Table.{Cells, is_cell_among, is_in, row_at, TableStat
 use Rattle.version_store.specs.declared.block.Block.{Block}
 use Rattle.version_store.specs.declared.block.Slot.{Slot}
 use Rattle.version_store.specs.Blocks.{IsTrueBlock, AreTrue}
-use Rattle.version_store.specs.Reading.{AllRise, AreBelow, IsBelow, KeepsBelow, MakesEach, MayTrim, RisesFrom, chain_at, value_at, version_number, with_change_by, with_commit, with_mark_by, with_opening_row}
+use Rattle.version_store.specs.Reading.{AllRise, AreBelow, IsBelow, KeepsBelow, MakesEach, MayBeTrimmed, MayTrim, RisesFrom, chain_at, value_at, version_number, with_change_by, with_commit, with_mark_by, with_opening_row}
 use Rattle.version_store.specs.Regions.{seen_in, IsSeen}
-use Rattle.version_store.specs.StandsFor.{Chain, no_chain, trimmed}
+use Rattle.version_store.specs.StandsFor.{Chain, no_chain}
 use Rattle.version_store.proofs.BlockLaws.{all_true}
 use Rattle.version_store.proofs.TrimLaws.{filtered_rest, trimmed_below, trimmed_rises, value_trimmed}
 
@@ -103,14 +103,14 @@ kept_below n before after keeps below c = subst (IsBelow n) (sym (keeps c (below
 pub trim_rises : (f : ℕ) (before after : Cells Chain) → MayTrim f before after → AllRise before → AllRise after
 trim_rises f before after trims rise c = go (trims c)
   where
-    go : (chain_at after c ≡ chain_at before c) ⊎ (chain_at after c ≡ trimmed f (chain_at before c)) → RisesFrom 0 (chain_at after c).versions
+    go : MayBeTrimmed f (chain_at before c) (chain_at after c) → RisesFrom 0 (chain_at after c).versions
     go (inl is) = subst (λ (x : Chain). RisesFrom 0 x.versions) (sym is) (rise c)
     go (inr is) = subst (λ (x : Chain). RisesFrom 0 x.versions) (sym is) (trimmed_rises f (chain_at before c) (rise c))
 
 pub trim_below : (f n : ℕ) (before after : Cells Chain) → MayTrim f before after → AreBelow (n + 1) before → AreBelow (n + 1) after
 trim_below f n before after trims below c = go (trims c)
   where
-    go : (chain_at after c ≡ chain_at before c) ⊎ (chain_at after c ≡ trimmed f (chain_at before c)) → IsBelow (n + 1) (chain_at after c)
+    go : MayBeTrimmed f (chain_at before c) (chain_at after c) → IsBelow (n + 1) (chain_at after c)
     go (inl is) = subst (IsBelow (n + 1)) (sym is) (below c)
     go (inr is) = subst (IsBelow (n + 1)) (sym is) (trimmed_below f n (chain_at before c) (below c))
 
@@ -121,7 +121,7 @@ trim_block floor f before after region block rises trims holds n above since bel
     seen : IsSeen (seen_in region n) before block.rows
     seen = holds n (omega (arith, rises, above)) since below
 
-    go : (c : Cell) → (chain_at after c ≡ chain_at before c) ⊎ (chain_at after c ≡ trimmed f (chain_at before c)) → value_at n (chain_at before c) ≡ value_at n (chain_at after c)
+    go : (c : Cell) → MayBeTrimmed f (chain_at before c) (chain_at after c) → value_at n (chain_at before c) ≡ value_at n (chain_at after c)
     go c (inl is) = ap (value_at n) (sym is)
     go c (inr is) = sym (value_trimmed f n above (chain_at before c)) ∙ ap (value_at n) (sym is)
 

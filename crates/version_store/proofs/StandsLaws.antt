@@ -10,18 +10,15 @@ use Rattle.prog_tree.specs.Table.{cell_cmp, cells_of, is_in, is_cell_among, Tabl
 use Rattle.prog_tree.proofs.TableStates.{IsTableState-changed, IsTableState-rows_in, IsTableState-rows_left, same_state, row_at-where, row_at-rows_left}
 use Rattle.version_store.specs.Clash.{last_touch}
 use Rattle.version_store.specs.Commits.{state_at}
-use Rattle.version_store.specs.Reading.{AllRise, RisesFrom, chain_at, value_at, last_number, with_commit, with_mark_by, with_change_by, with_opening_row, IsBelow, TrimsAll}
+use Rattle.version_store.specs.Reading.{chain_at, value_at, last_number, with_commit, with_mark_by, with_change_by, with_opening_row, IsBelow, TrimsAll}
 use Rattle.version_store.specs.Regions.{seen_in, seen_left, IsSeen}
 use Rattle.version_store.specs.StandsFor.{Chain, no_chain, StoreView, StandsFor, AreCommits, chain_of, trimmed, size, EachHolds}
 use Rattle.version_store.specs.Trimming.{shown, versions_kept, marks_kept, touches_by, touches_above, within, beyond}
 use Rattle.version_store.specs.Versions.{retained, reclaimed}
 use Rattle.version_store.proofs.CountLaws.{size_retained, retained-open, retained-push}
 use Rattle.version_store.proofs.PendingLaws.{touches-push, beyond_floor, untouched}
-use Rattle.version_store.proofs.TrimLaws.{trimmed_again, trimmed_below, trimmed_rises, value_trimmed, last_trimmed, kept_push, marks_push}
-use Rattle.version_store.proofs.VersionLaws.{value_at-chain_of, last_number-chain_of, chain_rises, chain_of-push, chain_below}
-
-pub all_rise : (s : StoreView) (opening : TableState) (ws : List ChangeSet) → StandsFor s opening ws → AllRise s.chains
-all_rise s opening ws h c = subst (λ (x : Chain). RisesFrom 0 x.versions) (sym (h.chains c)) (trimmed_rises s.floor (chain_of opening ws c) (chain_rises opening ws c))
+use Rattle.version_store.proofs.TrimLaws.{trimmed_again, trimmed_below, value_trimmed, last_trimmed, kept_push, marks_push}
+use Rattle.version_store.proofs.VersionLaws.{value_at-chain_of, last_number-chain_of, chain_of-push, chain_below}
 
 pub reads_state :
     (s : StoreView) (opening : TableState) (ws : List ChangeSet) → StandsFor s opening ws → (n : ℕ) → s.floor ≤ n → (c : Cell) →

@@ -1,11 +1,11 @@
 -- What the loops over touches keep.
-use Rattle.std.proofs.Common.{◌≡◌, ◌∙◌, ℕ, ◌+◌, ◌-◌, ◌^◌, ◌≤◌, min, ◌⊎◌, inl, inr, Bool, true, false, ◌||◌, cond, if◌then◌else◌, leb, List, [], ◌∷◌, ◌++◌, length, take, refl, ap, sym, arith, append_assoc, append-nil}
+use Rattle.std.proofs.Common.{◌≡◌, ◌∙◌, ℕ, ◌+◌, ◌-◌, ◌^◌, ◌≤◌, min, inl, inr, Bool, true, false, ◌||◌, cond, if◌then◌else◌, leb, List, [], ◌∷◌, ◌++◌, length, take, refl, ap, sym, arith, append_assoc, append-nil}
 use Rattle.std.proofs.lemmas.Bool.{le-leb}
 use Rattle.std.proofs.lemmas.List.{take_all}
 use Rattle.prog_tree.specs.declared.cell.Cell.{Cell}
 use Rattle.prog_tree.specs.Table.{Cells, is_same_cell, is_cell_among}
 use Rattle.prog_tree.proofs.CellSets.{same-turned}
-use Rattle.version_store.specs.Reading.{chain_at, MakesAt, MayTrim}
+use Rattle.version_store.specs.Reading.{chain_at, MakesAt, MayBeTrimmed, MayTrim}
 use Rattle.version_store.specs.StandsFor.{Chain, trimmed, size, EachHolds}
 use Rattle.version_store.specs.Trimming.{numbered, within, beyond, TakesWithin}
 use Rattle.version_store.proofs.TrimLaws.{trimmed_again}
@@ -74,12 +74,12 @@ vacuums_more f before now next first left rest cell count n total takes made hol
     within_left : within f left ≡ cell ∷ within f rest
     within_left = ap (within f) takes.2 ∙ ap (λ b. cond b (cell ∷ within f rest) []) low
 
-    same : (c : Cell) → (chain_at now c ≡ chain_at before c) ⊎ (chain_at now c ≡ trimmed f (chain_at before c)) → trimmed f (chain_at now c) ≡ trimmed f (chain_at before c)
+    same : (c : Cell) → MayBeTrimmed f (chain_at before c) (chain_at now c) → trimmed f (chain_at now c) ≡ trimmed f (chain_at before c)
     same c (inl is) = ap (trimmed f) is
     same c (inr is) = ap (trimmed f) is ∙ trimmed_again f f (omega arith) (chain_at before c)
 
     one : (c : Cell) (b : Bool) → chain_at next c ≡ (if b then trimmed f (chain_at now c) else chain_at now c) →
-        (chain_at now c ≡ chain_at before c) ⊎ (chain_at now c ≡ trimmed f (chain_at before c)) → (chain_at next c ≡ chain_at before c) ⊎ (chain_at next c ≡ trimmed f (chain_at before c))
+        MayBeTrimmed f (chain_at before c) (chain_at now c) → MayBeTrimmed f (chain_at before c) (chain_at next c)
     one c true e so_far = inr (e ∙ same c so_far)
     one c false e (inl is) = inl (e ∙ is)
     one c false e (inr is) = inr (e ∙ is)

@@ -132,10 +132,13 @@ abbrev pub TrimsAll : (f : ℕ) → List Cell → Cells Chain → Cells Chain �
 TrimsAll f cells before after =
     ((c : Cell) → is_cell_among cells c ≡ false → trimmed f (chain_at before c) ≡ chain_at before c) → MakesEach (λ c. trimmed f) before after
 
--- each chain is trimmed, or as it was
+-- a chain is as it was, or trimmed
+abbrev pub MayBeTrimmed : (f : ℕ) → (before after : Chain) → Type 0
+MayBeTrimmed f before after = (after ≡ before) ⊎ (after ≡ trimmed f before)
+
+-- so is each one
 abbrev pub MayTrim : (f : ℕ) → Cells Chain → Cells Chain → Type 0
-MayTrim f before after =
-    (c : Cell) → (chain_at after c ≡ chain_at before c) ⊎ (chain_at after c ≡ trimmed f (chain_at before c))
+MayTrim f before after = (c : Cell) → MayBeTrimmed f (chain_at before c) (chain_at after c)
 
 -- where all numbers were below n, each chain is the same
 abbrev pub KeepsBelow : ℕ → Cells Chain → Cells Chain → Type 0

@@ -46,5 +46,5 @@ invariant_of-self c =
     let rises = rw (← c.self.view_is) at c.requires.rises in (
       trim_rises c.args.floor before after trims c.self.invariant.0,
       trim_below c.args.floor c.self.inside.commits before after trims c.self.invariant.1,
-      c.limit.ensures after c.args.floor (trim_true c.self.inside.floor c.args.floor before after c.self.inside.blocks rises trims c.self.invariant.2),
+      c.limit.ensures.stays after c.args.floor (trim_true c.self.inside.floor c.args.floor before after c.self.inside.blocks rises trims c.self.invariant.2),
     )
