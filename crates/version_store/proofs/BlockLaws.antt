@@ -1,5 +1,5 @@
 -- What blocks go on saying of chains.
-use Rattle.std.proofs.Common.{◌≡◌, ◌∙◌, ℕ, ◌≤◌, ◌⊎◌, inl, inr, Bool, true, false, cond, List, [], ◌∷◌, refl, ap, sym, subst, arith}
+use Rattle.std.proofs.Common.{◌≡◌, ◌∙◌, ℕ, ◌≤◌, ◌⊎◌, inl, inr, Bool, true, false, cond, if◌then◌else◌, leb, List, [], ◌∷◌, refl, ap, sym, subst, arith}
 use Rattle.std.specs.Prelude.{Option, Some, None, IfSome, IsSome, filter, option_map}
 use Rattle.std.specs.Cmp.{tied_itself}
 use Rattle.std.specs.declared.cmp.Ordering.{Ordering}
@@ -18,7 +18,7 @@ use Rattle.prog_tree.proofs.TableLemmas.{cell_total}
 use Rattle.prog_tree.proofs.TableStates.{same_cell, cell_is}
 use Rattle.version_store.specs.declared.block.Block.{Block}
 use Rattle.version_store.specs.declared.block.Slot.{Slot}
-use Rattle.version_store.specs.Blocks.{IsTrueBlock, IsTrueSlot, IsTrueAt, AreTrue, ended, ended_slot, EndsBefore, AreEnded, IsKeyOf}
+use Rattle.version_store.specs.Blocks.{IsTrueBlock, IsTrueSlot, IsTrueAt, AreTrue, ended, ended_slot, EndsBefore, AreEnded, IsKeyOf, with_block}
 use Rattle.version_store.specs.StandsFor.{Chain}
 use Rattle.version_store.proofs.FoundLaws.{cells-filter, at_cell-filter}
 
@@ -31,6 +31,14 @@ all_true floor f before after slots each holds key = go (at_cell slots key) refl
     go : (o : Option Slot) → at_cell slots key ≡ o → IsTrueAt floor before o → IsTrueAt f after o
     go None e h = tt
     go (Some slot) e h = each key slot e h
+
+-- a slot that takes a block keeps its region
+pub with_block_region : (block : Block) (slot : Slot) → (with_block block slot).region ≡ slot.region
+with_block_region block slot = go (leb slot.newest.since block.since)
+  where
+    go : (b : Bool) → (if b then record slot { newest = block; older = Some slot.newest } else record slot { older = Some block }).region ≡ slot.region
+    go true = refl
+    go false = refl
 
 -- ---- blocks that end
 
@@ -78,6 +86,13 @@ put_true floor chains m n key slot h put all c = subst (IsTrueAt floor chains) (
     go : (b : Bool) → IsTrueAt floor chains (cond b (Some slot) (at_cell m c))
     go true = h
     go false = all c
+
+-- what stands at the key
+pub put_at : (m n : Cells Slot) (key : Cell) (slot : Slot) → IsPut m n key slot → at_cell n key ≡ Some slot
+put_at m n key slot put = put key ∙ ap (λ b. cond b (Some slot) (at_cell m key)) (same-itself key)
+
+pub taken_at : (m n : Cells Slot) (key : Cell) → IsTaken m n key → at_cell n key ≡ None
+taken_at m n key taken = taken key ∙ ap (λ b. cond b None (at_cell m key)) (same-itself key)
 
 pub taken_true : (floor : ℕ) (chains : Cells Chain) (m n : Cells Slot) (key : Cell) → IsTaken m n key → AreTrue floor chains m → AreTrue floor chains n
 taken_true floor chains m n key taken all c = subst (IsTrueAt floor chains) (sym (taken c)) (go (is_same_cell key c))

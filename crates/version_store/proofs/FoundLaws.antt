@@ -110,7 +110,7 @@ all_left chains sorted rise = record {
   rises = λ c chain found. subst (λ (o : Option Chain). RisesFrom 0 (unwrap_or o no_chain).versions) found (rise c);
 }
 
-between_left : (p : Cell → Bool) (chains between : Cells Chain) → IsStrictlySortedBy cell_cmp (cells_of chains) → AllRise chains → between ≡ filter (λ e. p e.0) chains → IsLeft between
+pub between_left : (p : Cell → Bool) (chains between : Cells Chain) → IsStrictlySortedBy cell_cmp (cells_of chains) → AllRise chains → between ≡ filter (λ e. p e.0) chains → IsLeft between
 between_left p chains between sorted rise is = record {
   sorted = subst (λ (cs : List Cell). IsStrictlySortedBy cell_cmp cs) (cells-filter p chains ∙ ap cells_of (sym is)) (IsStrictlySortedBy-filter cell_cmp p (cells_of chains) sorted);
   rises = λ c chain found. inside (p c) c chain (sym (at_cell-filter p chains c) ∙ ap (λ es. at_cell es c) (sym is) ∙ found);
@@ -120,10 +120,10 @@ between_left p chains between sorted rise is = record {
     inside true c chain found = subst (λ (o : Option Chain). RisesFrom 0 (unwrap_or o no_chain).versions) found (rise c)
     inside false c chain found = absurd (cc)
 
-first_rises : (k : Cell) (chain : Chain) (rest : Cells Chain) → IsLeft ((k, chain) ∷ rest) → RisesFrom 0 chain.versions
+pub first_rises : (k : Cell) (chain : Chain) (rest : Cells Chain) → IsLeft ((k, chain) ∷ rest) → RisesFrom 0 chain.versions
 first_rises k chain rest h = h.rises k chain (ap (λ b. cond b (Some chain) (at_cell rest k)) (ap is_eq (tied_itself cell_total k)))
 
-rest_left : (k : Cell) (chain : Chain) (rest : Cells Chain) → IsLeft ((k, chain) ∷ rest) → IsLeft rest
+pub rest_left : (k : Cell) (chain : Chain) (rest : Cells Chain) → IsLeft ((k, chain) ∷ rest) → IsLeft rest
 rest_left k chain rest h = record {
   sorted = sorted_tail cell_cmp k (cells_of rest) h.sorted;
   rises = λ c x found. go (is_same_cell c k) c x refl found;

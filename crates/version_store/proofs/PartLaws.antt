@@ -1,14 +1,14 @@
 -- The rows of a part of a region.
-use Rattle.std.proofs.Common.{◌≡◌, ◌∙◌, ℕ, ◌+◌, ◌<◌, ℤ, ◌≤ℤ◌, Bool, true, false, cond, ◌==◌, ◌&&◌, [], ◌∷◌, ◌++◌, length, drop, get_or, refl, ap, sym, subst, arith, add-one, append_assoc, drop-cons}
-use Rattle.std.specs.Prelude.{Option, Some, None, int_le}
+use Rattle.std.proofs.Common.{◌≡◌, ◌∙◌, ℕ, ◌+◌, ◌<◌, ℤ, Bool, true, false, cond, ◌==◌, ◌&&◌, [], ◌∷◌, ◌++◌, length, drop, get_or, refl, ap, sym, subst, arith, add-one, append_assoc, drop-cons}
+use Rattle.std.specs.Prelude.{Option, None, int_le}
 use Rattle.std.proofs.lemmas.Bool.{and_parts}
 use Rattle.std.proofs.lemmas.Int.{ints}
 use Rattle.prog_tree.specs.declared.cell.Cell.{Cell}
 use Rattle.prog_tree.specs.declared.cell.Region.{Region}
-use Rattle.prog_tree.specs.Table.{Cells, is_in, lies_between, rows_in, row_at, TableState}
+use Rattle.prog_tree.specs.Table.{is_in, lies_between, rows_in, TableState}
 use Rattle.prog_tree.proofs.TableStates.{IsTableState-rows_in, row_at-where}
 use Rattle.version_store.specs.declared.block.Slot.{Slot}
-use Rattle.version_store.specs.Blocks.{IsBySlot, IsOfSlot, IsPart, IsTrueSlot, part_between}
+use Rattle.version_store.specs.Blocks.{IsBySlot, IsOfSlot, IsPart}
 use Rattle.version_store.specs.Reading.{chain_at, value_at}
 use Rattle.version_store.specs.Regions.{seen_in, IsSeen}
 use Rattle.version_store.specs.StandsFor.{Chain}
@@ -54,8 +54,8 @@ in_part part region c is_part inside =
     firsts =
         let low = (and_parts (int_le part.first_low c.first) _ between).0 in
         let high = (and_parts (int_le part.first_low c.first) _ between).1 in
-        let first = is_le region.first_low c.first (omega (arith, ints, low, is_part.1.0)) in
-        let last = is_le c.first region.first_high (omega (arith, ints, high, is_part.1.2)) in
+        let first = is_le region.first_low c.first (omega (arith, ints, low, is_part.1.0.0)) in
+        let last = is_le c.first region.first_high (omega (arith, ints, high, is_part.1.0.2)) in
         (λ i. first i && last i) ∙ sym between
 
 -- the rows of a slot that lie in a part of its region

@@ -48,7 +48,7 @@ shares_more region left part n floor above chains slot rows old read sorted is_p
     ∙ append_assoc (rows_of old ++ before) rows behind
     ∙ append_assoc (rows_of old) before (rows ++ behind)
     ∙ ap (λ more. rows_of old ++ (before ++ (more ++ behind))) (sym is_own)
-    ∙ ap (λ more. rows_of old ++ more) (sym (split_part left n part.first_low part.first_high chains is_part.1.0 is_part.1.1 is_part.1.2 sorted))
+    ∙ ap (λ more. rows_of old ++ more) (sym (split_part left n part.first_low part.first_high chains is_part.1.0.0 is_part.1.0.1 is_part.1.0.2 sorted))
     ∙ so_far
   where
     before : TableState

@@ -2,7 +2,7 @@
 use Rattle.std.proofs.Common.{◌≡◌, ◌∙◌, ℕ, ◌-◌, ◌<◌, ◌≤◌, List, length, get_or, ap, sym, subst, arith}
 use Rattle.std.specs.Prelude.{ℤ, Option, None}
 use Rattle.std.specs.List.Sorted.{IsNonDecreasingBy}
-use Rattle.std.proofs.lemmas.Bool.{le-leb, lt-leb}
+use Rattle.std.proofs.lemmas.Bool.{le-leb, lt-leb, leb-true, leb-false}
 use Rattle.std.proofs.lemmas.List.{get_or_default}
 use Rattle.version_store.specs.Reading.{version_number, RisesFrom, IsNumberCut, IsCutAt, value_after}
 use Rattle.version_store.proofs.ChainLaws.{read_none, read_last}
@@ -40,3 +40,12 @@ stretch_last n vs count d v rises within some is low high =
 
     moved : IsCutAt n vs count
     moved = cut_at version_number n vs count (risen version_number 0 vs rises) within (λ e some. last e) high
+
+-- ---- the stretch of a cut
+
+-- the versions before a cut are at most its number, and those from it on are above
+pub within_cut : (n : ℕ) (vs : List (ℕ × Option ℤ)) (count : ℕ) (d : ℕ × Option ℤ) → IsCutAt n vs count → (count ≡ 0 → ⊥) → (get_or vs (count - 1) d).0 ≤ n
+within_cut n vs count d cut some = leb-true (get_or vs (count - 1) d).0 n (cut.0 (count - 1) d (omega arith) (omega (arith, some)))
+
+pub above_cut : (n : ℕ) (vs : List (ℕ × Option ℤ)) (count : ℕ) (d : ℕ × Option ℤ) → IsCutAt n vs count → count < length vs → n < (get_or vs count d).0
+above_cut n vs count d cut within = leb-false (get_or vs count d).0 n (cut.1 count d (omega arith) within)

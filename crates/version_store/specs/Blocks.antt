@@ -1,5 +1,5 @@
 -- Blocks: the rows of some cells, which scans share.
-use Rattle.std.specs.Prelude.{◌≡◌, ℕ, ◌<◌, ◌≤◌, ⊤, ℤ, ◌+ℤ◌, ◌-ℤ◌, ◌≤ℤ◌, ◌<ℤ◌, pos, min, true, false, List, Option, Some, None, IfSome, option_map, ◌⊎◌}
+use Rattle.std.specs.Prelude.{◌≡◌, ℕ, ◌<◌, ◌≤◌, ⊤, ℤ, ◌+ℤ◌, ◌-ℤ◌, ◌≤ℤ◌, ◌<ℤ◌, pos, leb, min, true, false, List, Option, Some, None, IfSome, option_map, if◌then◌else◌, ◌⊎◌}
 use Rattle.std.specs.Ordering.{is_gt}
 use Rattle.std.specs.declared.cmp.Ordering.TheVariants.{Less}
 use Rattle.prog_tree.specs.declared.cell.Cell.{Cell}
@@ -18,6 +18,14 @@ use Rattle.version_store.specs.Regions.{seen_in, seen_between, IsSeen}
 -- n lies in a stretch
 abbrev pub InStretch : Stretch → ℕ → Type 0
 InStretch stretch n = (stretch.since ≤ n) × (n < stretch.till)
+
+-- the greatest u64
+abbrev pub last_u64 : ℕ
+last_u64 = 18446744073709551615
+
+-- a number of commits lies in a stretch
+abbrev pub Covers : Stretch → ℕ → Type 0
+Covers stretch n = n < last_u64 → InStretch stretch n
 
 -- versions hold the value of a stretch after each number of commits in it
 abbrev pub HoldsIn : Stretch → List (ℕ × Option ℤ) → Type 0
@@ -75,6 +83,17 @@ IsBySlot n slot region rows =
 abbrev pub IsOfSlot : (n : ℕ) → Slot → TableState → Type 0
 IsOfSlot n slot rows = IsBySlot n slot slot.region rows
 
+-- ---- a slot takes a block
+
+-- a slot of one block
+abbrev pub one_block : Region → Block → Slot
+one_block region block = record { region = region; newest = block; older = None }
+
+-- of its blocks and a new one it keeps the newest, and with it the new one or the newest of the others
+abbrev pub with_block : Block → Slot → Slot
+with_block block slot =
+    if leb slot.newest.since block.since then record slot { newest = block; older = Some slot.newest } else record slot { older = Some block }
+
 -- ---- blocks that end
 
 -- a block without what it says from a commit on
@@ -108,19 +127,23 @@ HasCell (Some region) c = is_in region c ≡ true
 abbrev pub EndsAt : Cell → Slot → Type 0
 EndsAt key slot = (c : Cell) → is_in slot.region c ≡ true → is_gt (cell_cmp c key) ≡ false
 
--- each cell of a slot comes behind this one
-abbrev pub StandsBehind : Cell → Slot → Type 0
-StandsBehind key slot = (c : Cell) → is_in slot.region c ≡ true → cell_cmp key c ≡ Less
+-- each cell of a region comes behind this one
+abbrev pub StandsBehind : Cell → Region → Type 0
+StandsBehind key region = (c : Cell) → is_in region c ≡ true → cell_cmp key c ≡ Less
 
 -- each slot ends at its key, and stands behind the keys before it
 abbrev pub AreApart : Cells Slot → Type 0
 AreApart slots =
     (key : Cell) → (slot : Slot) → at_cell slots key ≡ Some slot →
-    EndsAt key slot × ((other : Cell) → (before : Slot) → at_cell slots other ≡ Some before → cell_cmp other key ≡ Less → StandsBehind other slot)
+    EndsAt key slot × ((other : Cell) → (before : Slot) → at_cell slots other ≡ Some before → cell_cmp other key ≡ Less → StandsBehind other slot.region)
 
 -- the slot of a key is just of a region
 abbrev pub HasSlot : Cells Slot → Cell → Region → Type 0
-HasSlot slots key region = IfSome (at_cell slots key) (λ slot. slot.region ≡ region)
+HasSlot slots key region = option_map (λ (slot : Slot). slot.region) (at_cell slots key) ≡ Some region
+
+-- the slot of a key has a cell
+abbrev pub HasAt : Cells Slot → Cell → (key : Cell) → Type 0
+HasAt slots c key = option_map (λ (slot : Slot). is_in slot.region c) (at_cell slots key) ≡ Some true
 
 -- a slot that has a cell has this key
 abbrev pub IsKeyOf : Cells Slot → Cell → Option Cell → Type 0
@@ -130,7 +153,7 @@ IsKeyOf slots c found = (key : Cell) → (slot : Slot) → at_cell slots key ≡
 abbrev pub LeavesFree : (low high : Cell) → Cells Slot → Type 0
 LeavesFree low high slots =
     (key : Cell) → (slot : Slot) → at_cell slots key ≡ Some slot →
-    (cell_cmp key low ≡ Less) ⊎ ((cell_cmp high key ≡ Less) × StandsBehind high slot)
+    (cell_cmp key low ≡ Less) ⊎ ((cell_cmp high key ≡ Less) × StandsBehind high slot.region)
 
 -- ---- parts of a region by its first column
 
@@ -145,10 +168,17 @@ part_before region low = record region { first_high = low -ℤ pos 1 }
 abbrev pub part_behind : Region → ℤ → Region
 part_behind region high = record region { first_low = high +ℤ pos 1 }
 
--- two ends of a part of a region are in order, and not the least and the greatest i64
+-- two ends lie in the first column of a region, in order
+abbrev pub LieIn : Region → (low high : ℤ) → Type 0
+LieIn region low high = (region.first_low ≤ℤ low) × (low ≤ℤ high) × (high ≤ℤ region.first_high)
+
+-- they are not the least and the greatest i64
+abbrev pub AreInner : (low high : ℤ) → Type 0
+AreInner low high = (least <ℤ low) × (high <ℤ greatest)
+
+-- two ends of a part of a region are both
 abbrev pub AreEnds : Region → (low high : ℤ) → Type 0
-AreEnds region low high =
-    (region.first_low ≤ℤ low) × (low ≤ℤ high) × (high ≤ℤ region.first_high) × (least <ℤ low) × (high <ℤ greatest)
+AreEnds region low high = LieIn region low high × AreInner low high
 
 -- one region is the part of another between such ends
 abbrev pub IsPart : Region → Region → Type 0

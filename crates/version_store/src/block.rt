@@ -2,7 +2,7 @@
 ghost use Rattle.std.specs.Prelude.{◌≡◌, ◌↔◌, ℕ, None, IfSome, IsTrue, option_map};
 ghost use Rattle.prog_tree.specs.Table.{Cells};
 ghost use Rattle.version_store.specs.Blocks.{IsTrueBlock, IsTrueSlot, IsOfOlder, IsOfSlot};
-ghost use Rattle.version_store.specs.Blocks.{IsSilent, SaysOf, ended, ended_slot};
+ghost use Rattle.version_store.specs.Blocks.{IsSilent, SaysOf, ended, ended_slot, with_block};
 ghost use Rattle.version_store.specs.StandsFor.{Chain};
 
 use prog_tree::{Piece, Region};
@@ -85,7 +85,7 @@ impl Slot {
 
     /// Takes a block of its cells, and keeps the newest of the others.
     pub fn add(&mut self, block: Block)
-        ensures region { self.new.region ≡ self.old.region }
+        ensures takes { self.new ≡ with_block block self.old }
         ensures true_slot { (floor : ℕ) (chains : Cells Chain) →
             IsTrueBlock 0 chains self.old.region block →
             IsTrueSlot floor chains self.old → IsTrueSlot floor chains self.new }

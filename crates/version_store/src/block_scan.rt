@@ -1,10 +1,10 @@
 //! Scans that share the rows of blocks.
-ghost use Rattle.std.specs.Prelude.{◌≡◌, ◌++◌, ◌≤◌, ◌<ℤ◌, ℕ, IfOk, IfSome, IsTrue, OnOk};
+ghost use Rattle.std.specs.Prelude.{◌≡◌, ◌↔◌, ◌++◌, ◌≤◌, ◌<ℤ◌, ℕ, IfOk, IfSome, IsTrue, OnOk};
 ghost use Rattle.prog_tree.specs.Number.{least, greatest};
 ghost use Rattle.prog_tree.specs.Pieces.{rows_of};
 ghost use Rattle.prog_tree.specs.Table.{TableState, rows_in};
-ghost use Rattle.version_store.specs.Blocks.{AreEnds, AreTrue, IsBySlot, IsPart};
-ghost use Rattle.version_store.specs.Blocks.{part_before, part_behind, part_between};
+ghost use Rattle.version_store.specs.Blocks.{AreEnds, AreInner, AreTrue, IsBySlot, IsPart};
+ghost use Rattle.version_store.specs.Blocks.{LieIn, part_before, part_behind, part_between};
 ghost use Rattle.version_store.specs.Reading.{AllRise};
 ghost use Rattle.version_store.specs.Regions.{seen_in, IsSeen};
 
@@ -47,17 +47,30 @@ fn part_behind(region: &Region, inner: &Region) -> Region
     }
 }
 
-// Whether some ends of a part of a region are in order, and not the least and the greatest i64.
-fn are_ends(region: &Region, low: i64, high: i64) -> bool
-    ensures { IsTrue result → AreEnds region.now low high }
+// Whether some ends lie in the first column of a region, in order.
+fn lie_in(region: &Region, low: i64, high: i64) -> bool
+    ensures { IsTrue result ↔ LieIn region.now low high }
 {
-    let inside = region.first_low <= low && high <= region.first_high;
-    inside && low <= high && i64::MIN < low && high < i64::MAX
+    region.first_low <= low && low <= high && high <= region.first_high
+}
+
+// Whether some ends are not the least and the greatest i64.
+fn are_inner(low: i64, high: i64) -> bool
+    ensures { IsTrue result ↔ AreInner low high }
+{
+    i64::MIN < low && high < i64::MAX
+}
+
+// Whether some ends are those of a part of a region.
+fn are_ends(region: &Region, low: i64, high: i64) -> bool
+    ensures { IsTrue result ↔ AreEnds region.now low high }
+{
+    lie_in(region, low, high) && are_inner(low, high)
 }
 
 // Whether one region is a part of another.
 fn is_part(inner: &Region, region: &Region) -> bool
-    ensures { IsTrue result → IsPart inner.now region.now }
+    ensures { IsTrue result ↔ IsPart inner.now region.now }
 {
     let (low, high) = (inner.first_low, inner.first_high);
     are_ends(region, low, high) && inner.is_same(&part_between(region, low, high))

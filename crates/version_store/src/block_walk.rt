@@ -1,6 +1,6 @@
 //! Walks over chains that make blocks.
-ghost use Rattle.std.specs.Prelude.{◌≡◌, IfOk};
-ghost use Rattle.version_store.specs.Blocks.{IsTrueBlock};
+ghost use Rattle.std.specs.Prelude.{◌≡◌, ◌<◌, IfOk};
+ghost use Rattle.version_store.specs.Blocks.{IsTrueBlock, SaysOf, last_u64};
 ghost use Rattle.version_store.specs.Reading.{AllRise};
 
 use crate::block::Block;
@@ -39,8 +39,10 @@ fn block_with(
 impl Chains {
     /// The block of a region that says what is after the first `start` commits.
     pub fn block_of(&self, start: u64, region: &Region) -> Result<Walked, AllocError>
-        ensures { IfOk result (λ walked. AllRise self.now →
+        ensures says { IfOk result (λ walked. AllRise self.now →
             IsTrueBlock 0 self.now region.now walked.block) }
+        ensures start { IfOk result (λ walked. AllRise self.now → start < last_u64 →
+            SaysOf start walked.block) }
     {
         let mut rows = Vec::with_capacity(self.alloc, NEW_CELLS)?;
         let mut since = 0;

@@ -1,10 +1,13 @@
 //! The blocks of all cells.
-ghost use Rattle.std.specs.Prelude.{◌≡◌, ◌↔◌, [], true, is_some, IfSome, IsTrue};
+ghost use Rattle.std.specs.Prelude.{◌≡◌, ◌↔◌, ◌≤◌, ◌/◌, [], length, true, is_some, IfSome, IsTrue};
+ghost use Rattle.std.specs.Prelude.{None, OnOk, Some, option_map};
 ghost use Rattle.prog_tree.specs.declared.cell.Cell.{Cell};
 ghost use Rattle.prog_tree.specs.ChangeSet.{change_at};
-ghost use Rattle.prog_tree.specs.Table.{Cells};
-ghost use Rattle.version_store.specs.Blocks.{AreEnded, AreEndedIn, HasCell, HasSlot, IsKeyOf};
-ghost use Rattle.version_store.specs.Blocks.{IsTrueBlock, LeavesFree, StaysTrue};
+ghost use Rattle.prog_tree.specs.Corners.{AreCorners};
+ghost use Rattle.prog_tree.specs.Table.{at_cell, Cells};
+ghost use Rattle.version_store.specs.Blocks.{AreEnded, AreEndedIn, HasAt, HasCell, HasSlot, IsKeyOf};
+ghost use Rattle.version_store.specs.Blocks.{IsTrueBlock, LeavesFree, StandsBehind, StaysTrue};
+ghost use Rattle.version_store.specs.Blocks.{one_block, with_block};
 ghost use Rattle.version_store.specs.StandsFor.{Chain};
 
 use crate::block::{Block, Slot};
@@ -38,6 +41,16 @@ impl Model for Blocks {
 /// Whether the cells of a slot's region all come behind those of a region.
 pub fn stands_behind(slot: &Region, region: &Region) -> bool {
     slot.table != region.table || slot.first_low > region.first_high
+}
+
+// Whether each cell of a region comes behind a cell.
+fn is_behind(region: &Region, cell: &Cell) -> bool
+    ensures { IsTrue result ↔ StandsBehind cell.now region.now }
+{
+    match region.corners() {
+        Some((first, _)) => cell.cmp(&first).is_lt(),
+        None => true,
+    }
 }
 
 // Whether a cell is one of the region of the slot that was ended last.
@@ -76,7 +89,8 @@ impl Blocks {
     /// Drops all of them where there are too many for so many cells with chains: cells that have
     /// gone leave theirs behind.
     pub fn limit(&mut self, cells: usize)
-        ensures { (chains : Cells Chain) → StaysTrue chains self.old self.new }
+        ensures keeps { length self.old ≤ cells / FEWEST_CELLS → self.new ≡ self.old }
+        ensures stays { (chains : Cells Chain) → StaysTrue chains self.old self.new }
     {
         if self.slots.len() > cells / FEWEST_CELLS {
             self.clear();
@@ -85,7 +99,8 @@ impl Blocks {
 
     // The key of the slot that has a cell, if there is one.
     fn key_of(&self, cell: &Cell) -> Option<Cell>
-        ensures { IsKeyOf self.now cell.now result }
+        ensures key { IsKeyOf self.now cell.now result }
+        ensures has { IfSome result (HasAt self.now cell.now) }
     {
         let Some((key, slot)) = self.slots.range(*cell..).next() else {
             return None;
@@ -136,20 +151,20 @@ impl Blocks {
 
     // Whether no slot has a cell from `low` to `high`, nor cells around these.
     fn is_free(&self, low: &Cell, high: &Cell) -> bool
-        ensures { IsTrue result → LeavesFree low.now high.now self.now }
+        ensures { IsTrue result ↔ LeavesFree low.now high.now self.now }
     {
         let Some((key, slot)) = self.slots.range(*low..).next() else {
             return true;
         };
-        let Some((first, _)) = slot.region.corners() else {
-            return false;
-        };
-        high.cmp(key).is_lt() && high.cmp(&first).is_lt()
+        high.cmp(key).is_lt() && is_behind(&slot.region, high)
     }
 
     /// Makes a slot of a block, where none has any of its cells.
     pub fn insert(&mut self, region: &Region, block: Block) -> Result<(), AllocError>
-        ensures { (chains : Cells Chain) →
+        ensures inserted { OnOk result ((low high : Cell) →
+            AreCorners region.now (Some (low, high)) → LeavesFree low high self.old →
+            at_cell self.new high ≡ Some (one_block region.now block)) }
+        ensures stays { (chains : Cells Chain) →
             IsTrueBlock 0 chains region.now block →
             StaysTrue chains self.old self.new }
     {
@@ -170,14 +185,17 @@ impl Blocks {
 
     /// Drops the slot of a key.
     pub fn remove(&mut self, key: &Cell)
-        ensures { (chains : Cells Chain) → StaysTrue chains self.old self.new }
+        ensures gone { at_cell self.new key.now ≡ None }
+        ensures stays { (chains : Cells Chain) → StaysTrue chains self.old self.new }
     {
         let _ = self.slots.remove(key);
     }
 
     /// Adds a block to the slot of a key, where that is just of this region.
     pub fn add(&mut self, key: &Cell, region: &Region, block: Block)
-        ensures { (chains : Cells Chain) →
+        ensures added { HasSlot self.old key.now region.now →
+            at_cell self.new key.now ≡ option_map (with_block block) (at_cell self.old key.now) }
+        ensures stays { (chains : Cells Chain) →
             IsTrueBlock 0 chains region.now block →
             StaysTrue chains self.old self.new }
     {
@@ -192,7 +210,7 @@ impl Blocks {
 
     /// Whether the slot of a key is just of a region.
     pub fn has_slot(&self, key: &Cell, region: &Region) -> bool
-        ensures { IsTrue result → HasSlot self.now key.now region.now }
+        ensures { IsTrue result ↔ HasSlot self.now key.now region.now }
     {
         match self.slots.get(key) {
             Some(slot) => slot.region.is_same(region),

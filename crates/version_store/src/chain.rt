@@ -1,7 +1,7 @@
 //! What the store keeps of one cell.
 ghost use Rattle.std.specs.Prelude.{◌≡◌, ◌↔◌, ◌≤◌, ◌+◌, length, leb, None, IsTrue, OnOk, OnErr};
 ghost use Rattle.std.specs.List.{prefix_len};
-ghost use Rattle.version_store.specs.Blocks.{HoldsIn};
+ghost use Rattle.version_store.specs.Blocks.{Covers, HoldsIn};
 ghost use Rattle.version_store.specs.Reading.{RisesFrom, value_at, last_number_or, last_number};
 ghost use Rattle.version_store.specs.Reading.{cut_from};
 ghost use Rattle.version_store.specs.StandsFor.{no_chain, trimmed};
@@ -68,7 +68,8 @@ impl Chain {
     /// How long the cell holds what it held after the first `number` commits.
     #[inline]
     pub fn stretch_at(&self, number: u64) -> Stretch
-        ensures { RisesFrom 0 self.now.versions → HoldsIn result self.now.versions }
+        ensures holds { RisesFrom 0 self.now.versions → HoldsIn result self.now.versions }
+        ensures start { RisesFrom 0 self.now.versions → Covers result number }
     {
         self.versions.stretch_at(number)
     }

@@ -1,6 +1,6 @@
 //! How long a cell holds what it holds.
 ghost use Rattle.std.specs.Prelude.{◌≡◌, ℕ, ◌<◌, ℤ, length, Option, slice_index_or};
-ghost use Rattle.version_store.specs.Blocks.{HoldsIn, SeesIn};
+ghost use Rattle.version_store.specs.Blocks.{Covers, HoldsIn, InStretch, SeesIn};
 ghost use Rattle.version_store.specs.Reading.{RisesFrom};
 
 use crate::chain::Chain;
@@ -29,6 +29,9 @@ fn number_at(versions: &[Version], place: usize, end: u64) -> u64
     ensures place { (d : ℕ × Option ℤ) → (n : ℕ) → n < result → place < length versions.now →
         n < (slice_index_or versions.now place d).0 }
     ensures end { (n : ℕ) → n < result → n < end }
+    ensures least { (n : ℕ) → n < end →
+        ((d : ℕ × Option ℤ) → place < length versions.now →
+        n < (slice_index_or versions.now place d).0) → n < result }
 {
     match versions.get(place) {
         Some(version) => version.number.min(end),
@@ -41,6 +44,7 @@ fn number_at(versions: &[Version], place: usize, end: u64) -> u64
 pub fn stretch_among(versions: &[Version], number: u64, end: u64) -> Stretch
     ensures holds { RisesFrom 0 versions.now → HoldsIn result versions.now }
     ensures end { (n : ℕ) → n < result.till → n < end }
+    ensures start { RisesFrom 0 versions.now → number < end → InStretch result number }
 {
     let count = count_within(versions, number);
     let till = number_at(versions, count, end);
@@ -62,7 +66,8 @@ pub fn stretch_among(versions: &[Version], number: u64, end: u64) -> Stretch
 /// How long a region has of a cell between its corners what it had after the first `start` commits.
 #[inline]
 pub fn stretch_between(region: &Region, start: u64, cell: &Cell, chain: &Chain) -> Stretch
-    ensures { RisesFrom 0 chain.now.versions → SeesIn region.now result cell.now chain.now }
+    ensures sees { RisesFrom 0 chain.now.versions → SeesIn region.now result cell.now chain.now }
+    ensures start { RisesFrom 0 chain.now.versions → Covers result start }
 {
     if !lies_between(region.second_low, cell.second, region.second_high) {
         return NOTHING;

@@ -2,7 +2,7 @@
 ghost use Rattle.std.specs.List.{list_all};
 ghost use Rattle.std.specs.Prelude.{◌≡◌, ◌↔◌, ◌≤◌, ◌+◌, ◌++◌, ◌∷◌, [], None, length, drop, filter};
 ghost use Rattle.std.specs.Prelude.{leb, nat_lt, IsTrue, OnOk, OnErr};
-ghost use Rattle.version_store.specs.Blocks.{HoldsIn};
+ghost use Rattle.version_store.specs.Blocks.{Covers, HoldsIn};
 ghost use Rattle.version_store.specs.Reading.{RisesFrom, IsCutAt, value_after, version_numbers};
 ghost use Rattle.version_store.specs.Reading.{last_number_or};
 ghost use Rattle.version_store.specs.Trimming.{versions_kept};
@@ -126,7 +126,8 @@ impl Versions {
     /// How long the cell holds what it held after the first `number` commits.
     #[inline]
     pub fn stretch_at(&self, number: u64) -> Stretch
-        ensures { RisesFrom 0 self.now → HoldsIn result self.now }
+        ensures holds { RisesFrom 0 self.now → HoldsIn result self.now }
+        ensures start { RisesFrom 0 self.now → Covers result number }
     {
         let Some(newest) = self.newest else {
             return NOTHING;

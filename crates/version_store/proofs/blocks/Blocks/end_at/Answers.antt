@@ -14,7 +14,7 @@ invariant_of-self c = subst (λ (after : BTreeMap Cell Slot). AreApart after.ent
 
 pub returns-in_default-get_mut-clause-ended : goal.returns-in_default-get_mut-clause-ended
 returns-in_default-get_mut-clause-ended c =
-    let is_key = rw (← c.self.view_is) at c.in-Some.ensures in
+    let is_key = rw (← c.self.view_is) at c.in-Some.ensures.key in
     subst (λ (after : BTreeMap Cell Slot). AreEnded c.args.number c.args.cell.now after.entries) (sym c.get_mut.follows.holds-at-none)
     (none_at c.args.number c.self.inside.slots.entries c.args.cell.now c.in-Some.key is_key c.in_default-get_mut.ensures.value)
 
@@ -39,7 +39,7 @@ returns-clause-ended c =
     let written = λ (some : IsSome (at_cell m c.in-Some.key)). ((c.get_mut.follows.holds slot).3 some).0 in
     let n = (c.get_mut.follows.lender slot).entries in
     let put = put_ended c.args.number m n c.in-Some.key c.in-Some-get_mut.slot.now slot c.in-Some-get_mut.ensures.value c.end_at.ensures written in
-    let is_key = rw (← c.self.view_is) at c.in-Some.ensures in
+    let is_key = rw (← c.self.view_is) at c.in-Some.ensures.key in
     put_ends c.args.number m n c.args.cell.now c.in-Some.key c.in-Some-get_mut.slot.now is_key put
 
 pub returns-clause-others : goal.returns-clause-others

@@ -1,7 +1,7 @@
 use Rattle.version_store.proofs.blocks.Blocks.renew.Goals as goal
 
 pub returns-then-walked-le-MOST_CELLS : goal.returns-then-walked-le-MOST_CELLS
-returns-then-walked-le-MOST_CELLS c = λ rise floor all. c.add.ensures c.args.chains.now (c.in_ok-walked.ensures rise) floor all
+returns-then-walked-le-MOST_CELLS c = λ rise floor all. c.add.ensures.stays c.args.chains.now (c.in_ok-walked.ensures.says rise) floor all
 
 pub returns : goal.returns
-returns c = λ rise floor all. c.fill.ensures rise floor (c.remove.ensures c.args.chains.now floor all)
+returns c = λ rise floor all. c.fill.ensures rise floor (c.remove.ensures.stays c.args.chains.now floor all)
