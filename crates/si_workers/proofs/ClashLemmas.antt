@@ -1,5 +1,5 @@
 -- Clashes of every call are told, where the tallies of those that are kept and told count alike.
-use Rattle.std.proofs.Common.{◌≡◌, ◌↔◌, ℕ, ◌<◌, List, length}
+use Rattle.std.proofs.Common.{◌↔◌, ℕ, ◌<◌, List, length}
 use Rattle.history_book.specs.declared.instances.row.Ending.{Ending}
 use Rattle.si_engine.specs.Headline.{Call}
 use Rattle.si_workers.specs.KeptAndTold.{Tidings, is_clash_of, clashes_kept, clashes_told}
