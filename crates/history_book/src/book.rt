@@ -8,7 +8,7 @@ ghost use Rattle.prog_run.specs.View.{IsTrueRun};
 ghost use Rattle.history_book.specs.Orders.{IsCycle, least_order};
 ghost use Rattle.history_book.specs.Placing.{IsOrderFault};
 ghost use Rattle.history_book.specs.Reasons.{told_reason, IsReason};
-ghost use Rattle.history_book.specs.Refusals.{HasAborted, IsOfInstance, IsCommitFault};
+ghost use Rattle.history_book.specs.Refusals.{HasAborted, IsFoundBy, IsOfInstance, IsCommitFault};
 ghost use Rattle.history_book.specs.Refusals.{IsOwnCommitFault, IsEndFault, IsCellRead};
 ghost use Rattle.history_book.specs.Refusals.{IsRegionRead, IsWithdrawal};
 ghost use Rattle.history_book.specs.Runs.{IsCommitted, IsAborted};
@@ -375,6 +375,34 @@ impl<'a> Book<'a> {
         if let Some(refusal) = self.refusal_of(&ticket, &run, ready) {
             return Err(refusal.of_commit(Unused { ticket, run }));
         }
+        self.commit_handed(ticket, run)
+    }
+
+    /// Commits as `commit` does, for a caller that knows that the run found what its snapshot
+    /// holds: that is not looked up again.
+    pub fn commit_found(&mut self, ticket: Ticket, run: Run<'a>) -> Result<Receipt, CommitFault<'a>>
+        requires found { IsFoundBy self.old ticket run }
+        ensures ok { IfOk result (λ receipt.
+            IsCommitted self.old self.new ticket run.entry receipt) }
+        ensures err { IfErr result (λ fault.
+            IsCommitFault self.old self.new ticket run.entry fault) }
+    {
+        let ready = is_ready(&run);
+        if let Some(refusal) = self.refusal_by_program(&ticket, &run, ready) {
+            return Err(refusal.of_commit(Unused { ticket, run }));
+        }
+        self.commit_handed(ticket, run)
+    }
+
+    // Commits by a run of the instance, and hands both back where memory lacks.
+    fn commit_handed(&mut self, ticket: Ticket, run: Run<'a>) -> Result<Receipt, CommitFault<'a>>
+        requires own { IsOfInstance self.old ticket run }
+        requires ready { run.end ≡ Some End.Ready }
+        ensures ok { IfOk result (λ receipt.
+            IsCommitted self.old self.new ticket run.entry receipt) }
+        ensures err { IfErr result (λ fault.
+            IsCommitFault self.old self.new ticket run.entry fault) }
+    {
         match self.commit_own(&ticket, &run) {
             Ok(receipt) => Ok(receipt),
             Err(OwnCommitFault::Clashed(clash)) => Err(CommitFault::Clashed(clash)),
@@ -413,6 +441,32 @@ impl<'a> Book<'a> {
         if let Some(refusal) = self.refusal_of(&ticket, &run, aborted) {
             return Err(refusal.of_end(Unused { ticket, run }));
         }
+        self.end_handed(ticket, run)
+    }
+
+    /// Ends as `end` does, for a caller that knows that the run found what its snapshot holds:
+    /// that is not looked up again.
+    pub fn end_found(&mut self, ticket: Ticket, run: Run<'a>) -> Result<(), EndFault<'a>>
+        requires found { IsFoundBy self.old ticket run }
+        ensures ok { OnOk result (IsAborted self.old self.new ticket run.entry) }
+        ensures err { IfErr result (λ fault.
+            IsEndFault self.old self.new ticket run.entry fault) }
+    {
+        let aborted = has_aborted(&run);
+        if let Some(refusal) = self.refusal_by_program(&ticket, &run, aborted) {
+            return Err(refusal.of_end(Unused { ticket, run }));
+        }
+        self.end_handed(ticket, run)
+    }
+
+    // Ends by a run of the instance, and hands both back where memory lacks.
+    fn end_handed(&mut self, ticket: Ticket, run: Run<'a>) -> Result<(), EndFault<'a>>
+        requires own { IsOfInstance self.old ticket run }
+        requires aborted { HasAborted run }
+        ensures ok { OnOk result (IsAborted self.old self.new ticket run.entry) }
+        ensures err { IfErr result (λ fault.
+            IsEndFault self.old self.new ticket run.entry fault) }
+    {
         match self.end_own(&ticket, &run) {
             Ok(()) => Ok(()),
             Err(_) => Err(EndFault::Memory(Unused { ticket, run })),

@@ -2,7 +2,7 @@
 
 ghost use Rattle.std.specs.Prelude.{◌≡◌};
 ghost use Rattle.prog_run.specs.Step.{end_after};
-ghost use Rattle.history_book.specs.Refusals.{IsOfInstance};
+ghost use Rattle.history_book.specs.Refusals.{IsFoundBy, IsOfInstance};
 
 use crate::book::answer::Answer;
 use crate::book::endings::ending;
@@ -36,6 +36,7 @@ fn begun<'a>(
 fn advance(rt: &impl Abort, book: &mut Book<'_>, ticket: &Ticket, run: &mut Run<'_>) -> Next
     requires { IsOfInstance book.old ticket.now run.old }
     ensures own { IsOfInstance book.new ticket.now run.new }
+    ensures found { IsFoundBy book.new ticket.now run.new }
     ensures end { run.new.end ≡ end_after result }
 {
     book.advance(ticket, run).expect(rt, "memory")
@@ -75,6 +76,41 @@ fn stop(rt: &impl Abort, alloc: Global, set: &ProgramSet) {
 fn a_run_that_aborted_ends_its_instance(rt: HostRuntime) -> Result<(), Fail> {
     let set = set_of(rt.alloc(), REGISTERS)?;
     stop(&rt, rt.alloc(), &set);
+    drop(set);
+    Ok(())
+}
+
+fn look_found(rt: &impl Abort, alloc: Global, set: &ProgramSet) {
+    let (mut book, ticket, mut run) = begun(rt, alloc, set, LOOK, &[1]);
+    let _read = advance(rt, &mut book, &ticket, &mut run);
+    let _end = advance(rt, &mut book, &ticket, &mut run);
+    let Ok(receipt) = book.commit_found(ticket, run) else {
+        panic!(rt; "the run is refused")
+    };
+    assert!(rt; receipt.number() == 1);
+    assert!(rt; ending(&book, 0) == Answer::Committed(1));
+}
+
+#[test]
+fn a_run_whose_looks_are_known_commits_its_instance(rt: HostRuntime) -> Result<(), Fail> {
+    let set = set_of(rt.alloc(), REGISTERS)?;
+    look_found(&rt, rt.alloc(), &set);
+    drop(set);
+    Ok(())
+}
+
+fn stop_found(rt: &impl Abort, alloc: Global, set: &ProgramSet) {
+    let (mut book, ticket, mut run) = begun(rt, alloc, set, STOP, &[]);
+    let _end = advance(rt, &mut book, &ticket, &mut run);
+    assert!(rt; book.end_found(ticket, run).is_ok());
+    assert!(rt; ending(&book, 0) == Answer::Aborted);
+    assert!(rt; book.commits() == 0);
+}
+
+#[test]
+fn a_run_whose_looks_are_known_ends_its_instance(rt: HostRuntime) -> Result<(), Fail> {
+    let set = set_of(rt.alloc(), REGISTERS)?;
+    stop_found(&rt, rt.alloc(), &set);
     drop(set);
     Ok(())
 }

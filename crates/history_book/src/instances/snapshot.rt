@@ -9,7 +9,7 @@ ghost use Rattle.version_store.specs.Clash.{IsClash};
 ghost use Rattle.version_store.specs.Told.{told};
 ghost use Rattle.prog_tree.specs.Tree.{draft_tree};
 ghost use Rattle.history_book.specs.History.{IsCalled};
-ghost use Rattle.history_book.specs.Refusals.{IsOfInstance, IsRefusal};
+ghost use Rattle.history_book.specs.Refusals.{IsOfInstance, IsOfProgram, IsRefusal};
 ghost use Rattle.history_book.specs.Runs.{IsFirstForeign, SameProgram, IsEndedRow};
 ghost use Rattle.history_book.specs.View.{row_of, active_at, commits_in, state_in};
 
@@ -156,13 +156,20 @@ impl<'a> Book<'a> {
         run.program().is_same(program)
     }
 
-    /// The first reason why a ticket and a run do not end an instance, where `ended` says whether
-    /// the run has ended as it has to.
-    pub(crate) fn refusal_of(&self, ticket: &Ticket, run: &Run<'_>, ended: bool) -> Option<Refusal>
+    /// The first reason why a ticket and a run do not end an instance, what the run looked at
+    /// aside, where `ended` says whether the run has ended as it has to.
+    pub(crate) fn refusal_by_program(
+        &self,
+        ticket: &Ticket,
+        run: &Run<'_>,
+        ended: bool,
+    ) -> Option<Refusal>
         ensures refused { IfSome result (λ refusal.
             IsRefusal self.now ticket.now run.now ended refusal) }
         ensures ended { IfNone result (ended ≡ true) }
-        ensures own { IfNone result (IsOfInstance self.now ticket.now run.now) }
+        ensures same { IfNone result (IsOfProgram self.now ticket.now run.now) }
+        ensures above { IfNone result (self.now.floor ≤ ticket.now.start) }
+        ensures within { IfNone result (ticket.now.start ≤ length self.now.rows) }
     {
         let Some(active) = self.active_instance(ticket) else {
             return Some(Refusal::NoSuchTicket);
@@ -173,10 +180,21 @@ impl<'a> Book<'a> {
         if !self.has_program(active, run) {
             return Some(Refusal::ForeignRun(Difference::Program));
         }
-        if let Some(number) = self.foreign_look(active.start, run.looks()) {
-            return Some(Refusal::ForeignRun(Difference::Look(number)));
-        }
         None
+    }
+
+    /// The first reason, with what the run looked at.
+    pub(crate) fn refusal_of(&self, ticket: &Ticket, run: &Run<'_>, ended: bool) -> Option<Refusal>
+        ensures refused { IfSome result (λ refusal.
+            IsRefusal self.now ticket.now run.now ended refusal) }
+        ensures ended { IfNone result (ended ≡ true) }
+        ensures own { IfNone result (IsOfInstance self.now ticket.now run.now) }
+    {
+        if let Some(refusal) = self.refusal_by_program(ticket, run, ended) {
+            return Some(refusal);
+        }
+        let number = self.foreign_look(ticket.start, run.looks())?;
+        Some(Refusal::ForeignRun(Difference::Look(number)))
     }
 
     /// The row of the instance that a ticket and its own run end.
