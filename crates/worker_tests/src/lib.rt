@@ -12,3 +12,5 @@ mod part_tests;
 mod robust_tests;
 #[cfg(test)]
 mod sets;
+#[cfg(test)]
+mod states_tests;
