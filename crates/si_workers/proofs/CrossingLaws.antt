@@ -27,9 +27,16 @@ use Rattle.history_book.proofs.instances.active.Active.TheSendSync as active-cro
 use Rattle.history_book.proofs.instances.row.Ending.TheSendSync as ending-crossing
 use Rattle.history_book.proofs.instances.row.HistoryRow.TheSendSync as row-crossing
 use Rattle.history_book.proofs.orders.trace.Trace.TheSendSync as trace-crossing
+use Rattle.state_log.specs.declared.front.Naming as naming
+use Rattle.state_log.specs.contracts.front.Front as front
+use Rattle.state_log.specs.contracts.front.Head as head
+use Rattle.state_log.proofs.front.Front.TheSendSync as front-crossing
+use Rattle.state_log.proofs.front.Head.TheSendSync as head-crossing
 use Rattle.si_workers.specs.contracts.job.Job as job
 use Rattle.si_workers.proofs.job.Job.TheSendSync as job-crossing
-use Rattle.si_workers.specs.contracts.shared.SharedBook as shared
+use Rattle.si_workers.specs.contracts.kept.Kept as kept
+use Rattle.si_workers.specs.contracts.kept.Kept.TheInside as kept-inside
+use Rattle.si_workers.specs.contracts.kept.SharedKept as shared
 use Rattle.si_workers.specs.contracts.threads.Shift as shift
 
 -- trees hold themselves, so they go by the rules that their rings have
@@ -67,9 +74,35 @@ book-sync a =
       sendable,
     ) depth 60 fits 20000)
 
--- readers of the book share it
-pub shared-sync : (a : NamedLft) → IsSync (shared.the_row a)
-shared-sync a = search (book-send, book-sync, lock-crossing.the_field_sync, std.crosses, sendable) depth 60 fits 20000
+-- so does it with the states that it was in
+module _ (a : NamedLft) (J : RattleType) (name : naming.Ghosts J.Denot) where
+  head-send : IsSend (head.the_field J name).row
+  head-send = search (head-crossing.the_field_send, std.crosses, sendable) depth 60 fits 20000
+
+  head-sync : IsSync (head.the_field J name).row
+  head-sync = search (head-crossing.the_field_sync, std.crosses, sendable) depth 60 fits 20000
+
+  front-send : IsSend (front.the_row J name)
+  front-send = search (front-crossing.the_send, std.crosses, sendable) depth 60 fits 20000
+
+  front-sync : IsSync (front.the_row J name)
+  front-sync = search (front-crossing.the_sync, std.crosses, sendable) depth 60 fits 20000
+
+  kept-send : IsSend (kept.the_row a J name)
+  kept-send =
+      view_send (kept-inside.the_row a J name) _ _ _ _
+      (recorded_send (kept-inside.the_field a J name).row _ _ (kept-inside.the_type a J name).to_one
+      (struct_send (shape (kept-inside.the_type a J name)) (book-send a, (head-send, (front-send, tt)))))
+
+  kept-sync : IsSync (kept.the_row a J name)
+  kept-sync =
+      view_sync (kept-inside.the_row a J name) _ _ _ _
+      (recorded_sync (kept-inside.the_field a J name).row _ _ (kept-inside.the_type a J name).to_one
+      (struct_sync (shape (kept-inside.the_type a J name)) (book-sync a, (head-sync, (front-sync, tt)))))
+
+  -- readers share it
+  shared-sync : IsSync (shared.the_row a J name)
+  shared-sync = search (kept-send, kept-sync, lock-crossing.the_field_sync, std.crosses, sendable) depth 60 fits 20000
 
 job-sync : IsSync job.the_row
 job-sync = search (job-crossing.the_sync, std.crosses, sendable) depth 60 fits 20000
@@ -80,10 +113,12 @@ counter-sync = search (counter-crossing.the_sync, std.crosses, sendable) depth 6
 pass-send : IsSend pass.the_row
 pass-send = search (pass-crossing.the_send, std.crosses, sendable) depth 60 fits 20000
 
--- so they share what all workers of a run share: the runtime, the allocator, the set, the shared book, the jobs, the
--- counter and the gate
-module _ (e a : NamedLft) (R G : RattleType) (runtime : IsSync R) (gate : IsSync G) where
-  fields-sync : AllSync (shape (shift.the_type e a R G)).fields
+-- so they share what all workers of a run share: the runtime, the allocator, the set, the kept book, the jobs,
+-- the counter and the gate
+module _
+    (e a : NamedLft) (R G J : RattleType) (name : naming.Ghosts J.Denot)
+    (runtime : IsSync R) (gate : IsSync G) where
+  fields-sync : AllSync (shape (shift.the_type e a R G J name)).fields
   fields-sync = (
     shr_sync e.mir e.lft R runtime,
     (
@@ -91,7 +126,7 @@ module _ (e a : NamedLft) (R G : RattleType) (runtime : IsSync R) (gate : IsSync
       (
         shr_sync a.mir a.lft set.the_row set-sync,
         (
-          shr_sync e.mir e.lft (shared.the_row a) (shared-sync a),
+          shr_sync e.mir e.lft (shared.the_row a J name) (shared-sync a J name),
           (
             shr_slice_sync e.mir e.lft job.the_row job-sync,
             (shr_sync e.mir e.lft counter.the_row counter-sync, (shr_sync e.mir e.lft G gate, tt)),
@@ -101,21 +136,21 @@ module _ (e a : NamedLft) (R G : RattleType) (runtime : IsSync R) (gate : IsSync
     ),
   )
 
-  shift-sync : IsSync (shift.the_row e a R G)
+  shift-sync : IsSync (shift.the_row e a R G J name)
   shift-sync =
-      recorded_sync (shift.the_field e a R G).row _ _ (shift.the_type e a R G).to_one (struct_sync (shape (shift.the_type e a R G)) fields-sync)
+      recorded_sync (shift.the_field e a R G J name).row _ _ (shift.the_type e a R G J name).to_one (struct_sync (shape (shift.the_type e a R G J name)) fields-sync)
 
 -- a shared reference to it, and a pass
-module _ (R G : RattleType) (s e a : NamedLft) where
+module _ (R G J : RattleType) (name : naming.Ghosts J.Denot) (s e a : NamedLft) where
   abbrev captured : List RattleType
-  captured = ShrRef s.mir s.lft (shift.the_row e a (param 0 R) (param 1 G)) ∷ pass.the_row ∷ []
+  captured = ShrRef s.mir s.lft (shift.the_row e a (param 0 R) (param 1 G) (param 2 J) name) ∷ pass.the_row ∷ []
 
   captured-send : IsSync (param 0 R) → IsSync (param 1 G) → AllSend captured
   captured-send runtime gate = (
-    shr_send s.mir s.lft (shift.the_row e a (param 0 R) (param 1 G)) (shift-sync e a (param 0 R) (param 1 G) runtime gate),
+    shr_send s.mir s.lft (shift.the_row e a (param 0 R) (param 1 G) (param 2 J) name) (shift-sync e a (param 0 R) (param 1 G) (param 2 J) name runtime gate),
     (pass-send, tt),
   )
 
-  pub closure-send : (name : List ℕ) → IsSync (param 0 R) → IsSync (param 1 G) → IsSend (TupleAt name captured)
-  closure-send name runtime gate =
-      recorded_send (field_at name captured).row _ _ (type_at name captured).to_one (struct_send (shape (type_at name captured)) (captured-send runtime gate))
+  pub closure-send : (id : List ℕ) → IsSync (param 0 R) → IsSync (param 1 G) → IsSend (TupleAt id captured)
+  closure-send id runtime gate =
+      recorded_send (field_at id captured).row _ _ (type_at id captured).to_one (struct_send (shape (type_at id captured)) (captured-send runtime gate))

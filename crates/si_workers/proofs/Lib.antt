@@ -5,6 +5,7 @@ mod CrossingLaws
 mod GatherLaws
 mod JobVectors
 pub mod KeyLemmas
+pub mod KnownLaws
 mod RunLaws
 mod SharedLaws
 pub mod TallyLemmas

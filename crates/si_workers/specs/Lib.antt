@@ -8,6 +8,7 @@ pub mod HandedIn
 pub mod JobLines
 pub mod KeptAndTold
 pub mod Keys
+pub mod KnownStates
 pub mod LastAnswer
 pub mod Limits
 pub mod Outcomes

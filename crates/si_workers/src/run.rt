@@ -1,6 +1,7 @@
 //! Jobs, run by workers.
 
-ghost use Rattle.std.specs.Prelude.{◌≡◌, ◌≢◌, All, IfOk, IfErr, None};
+ghost use Rattle.std.specs.Prelude.{◌≡◌, ◌≢◌, ◌≤◌, All, IfOk, IfErr, None, length};
+ghost use Rattle.history_book.specs.TrueBook.{IsTrueBook};
 ghost use Rattle.prog_tree.specs.Tree.{draft_tree};
 ghost use Rattle.prog_check.specs.Paths.{paths_of};
 ghost use Rattle.prog_paths.specs.StaticGraph.{IsDangerous};
@@ -15,8 +16,8 @@ use crate::comparing::{broken, is_over};
 use crate::fault::WorkFault;
 use crate::gate::Gate;
 use crate::job::{Job, JobOutcome};
+use crate::kept::SharedKept;
 use crate::limits::{MAX_JOBS, MAX_WORKERS};
-use crate::shared::SharedBook;
 use crate::threads::run_threads;
 use crate::told::{Tiding, gather};
 use crate::worker::Done;
@@ -24,7 +25,9 @@ use history_book::Book;
 use prog_tree::{Rows, Sequence};
 use robust_cert::RobustSet;
 use si_engine::order_of;
+use state_log::{Naming, Opened};
 use std::alloc::{AllocError, Global};
+use std::marker::Brand;
 use std::sync::Wait;
 use std::thread::Threads;
 
@@ -191,6 +194,27 @@ fn settle<'a>(
     }
 }
 
+// What the workers did over a book, and the book that they leave.
+fn run_kept<'a, R: Threads + Wait + Sync, G: Gate + Sync, J: Naming + Send + Sync>(
+    rt: &R,
+    alloc: Global,
+    book: Book<'a>,
+    opened: Opened,
+    jobs: &[Job],
+    workers: usize,
+    gate: &G,
+) -> (Result<Vec<Done>, AllocError>, Book<'a>)
+    requires named { opened.seen.book ≡ J.book }
+    requires workers { workers ≤ MAX_WORKERS }
+    requires few { length jobs.now ≤ MAX_JOBS }
+    ensures { IsTrueBook result.1 }
+{
+    let set = book.set();
+    let shared = SharedKept::<J>::new(book, opened);
+    let ran = run_threads(rt, alloc, set, &shared, jobs, workers, gate);
+    (ran, shared.into_book())
+}
+
 /// Runs jobs by so many workers at once, and compares what they tell with the book that they leave.
 pub fn do_jobs<'a, R: Threads + Wait + Sync, G: Gate + Sync>(
     rt: &R,
@@ -227,9 +251,7 @@ pub fn do_jobs<'a, R: Threads + Wait + Sync, G: Gate + Sync>(
         set: programs,
         opening: &kept,
     };
-    let shared = SharedBook::new(book);
-    let ran = run_threads(rt, alloc, programs, &shared, jobs, workers, gate);
-    let book = shared.into_book();
+    let (ran, book) = run_kept::<R, G, Brand>(rt, alloc, book, Opened::new(), jobs, workers, gate);
     let Ok(done) = ran else {
         let book = book_over(given, book);
         return Err(WorkFault::Memory { book });

@@ -6,15 +6,13 @@ ghost use Rattle.si_workers.specs.Freshness.{IsAtNumber, IsBeginAfter, IsFresh, 
 ghost use Rattle.si_workers.specs.HandedIn.{AreRowsOf, IsCommitAnswer, IsEndAnswer};
 
 use crate::fault::BeginAfterFault;
-use crate::limits::{PAUSES, TRIES};
+use crate::lock::{reading, writing};
 use history_book::{
     BeginFault, Book, CommitFault, EndFault, NoSuchTicket, Receipt, ScanFault, Ticket,
 };
 use prog_run::Run;
 use prog_tree::{Cell, Region, RowPieces, Sequence};
-use std::hint::spin_loop;
-use std::sync::{RwLock, RwLockReadGuard, RwLockWriteGuard, Wait};
-use std::thread::yield_now;
+use std::sync::{RwLock, Wait};
 
 /// A book under one lock, which reads share and each other call has alone. Whenever the lock is
 /// taken, its value is a book. Each call takes the lock, makes the call of `Book` that it names,
@@ -23,18 +21,6 @@ use std::thread::yield_now;
 #[derive(Drop)]
 pub struct SharedBook<'a> {
     lock: RwLock<Book<'a>>,
-}
-
-// Waits before the lock is tried again: for a pause that doubles with each turn, and then until
-// other threads had their turn.
-fn give_way(turn: u32) {
-    if turn < PAUSES {
-        for _pause in 0..1u32 << turn {
-            spin_loop();
-        }
-    } else {
-        yield_now();
-    }
 }
 
 // Begins an instance that has to see a receipt's commit. Where the book has fewer commits, it is
@@ -92,16 +78,6 @@ fn rows_there(
     book.scan(ticket, region)
 }
 
-pub(crate) fn pieces_there(
-    book: &Book<'_>,
-    ticket: &Ticket,
-    region: &Region,
-) -> Result<RowPieces, ScanFault>
-    ensures { IfOk result (AreRowsOf region.now) }
-{
-    book.scan_pieces(ticket, region)
-}
-
 fn commit_there<'a>(
     book: &mut Book<'a>,
     ticket: Ticket,
@@ -126,28 +102,6 @@ fn withdraw_there(book: &mut Book<'_>, ticket: Ticket) -> Result<(), Ticket>
 }
 
 impl<'a> SharedBook<'a> {
-    // The book to read in.
-    pub(crate) fn reading(&self, rt: &impl Wait) -> RwLockReadGuard<'_, Book<'a>> {
-        for turn in 0..TRIES {
-            if let Some(book) = self.lock.try_read() {
-                return book;
-            }
-            give_way(turn);
-        }
-        self.lock.read(rt)
-    }
-
-    // The book to change.
-    fn writing(&self, rt: &impl Wait) -> RwLockWriteGuard<'_, Book<'a>> {
-        for turn in 0..TRIES {
-            if let Some(book) = self.lock.try_write() {
-                return book;
-            }
-            give_way(turn);
-        }
-        self.lock.write(rt)
-    }
-
     /// Shares a book.
     pub fn new(book: Book<'a>) -> Self {
         SharedBook {
@@ -159,7 +113,7 @@ impl<'a> SharedBook<'a> {
     pub fn begin(&self, rt: &impl Wait, program: usize, args: &[i64]) -> Result<Ticket, BeginFault>
         ensures { IfErr result IsOfNoNumber }
     {
-        let mut book = self.writing(rt);
+        let mut book = writing(&self.lock, rt);
         begin_newest(&mut book, program, args)
     }
 
@@ -173,7 +127,7 @@ impl<'a> SharedBook<'a> {
     ) -> Result<Ticket, BeginFault>
         ensures { IsAtNumber start result }
     {
-        let mut book = self.writing(rt);
+        let mut book = writing(&self.lock, rt);
         begin_there(&mut book, start, program, args)
     }
 
@@ -188,7 +142,7 @@ impl<'a> SharedBook<'a> {
     ) -> Result<Ticket, BeginAfterFault>
         ensures { IsFresh receipt.now result }
     {
-        let mut book = self.writing(rt);
+        let mut book = writing(&self.lock, rt);
         begin_seeing(&mut book, receipt, program, args)
     }
 
@@ -199,7 +153,7 @@ impl<'a> SharedBook<'a> {
         ticket: &Ticket,
         cell: &Cell,
     ) -> Result<Option<i64>, NoSuchTicket> {
-        self.reading(rt).get(ticket, cell)
+        reading(&self.lock, rt).get(ticket, cell)
     }
 
     /// `Book::scan`.
@@ -211,7 +165,7 @@ impl<'a> SharedBook<'a> {
     ) -> Result<Sequence<(Cell, i64)>, ScanFault>
         ensures { IfOk result (AreRowsOf region.now) }
     {
-        let book = self.reading(rt);
+        let book = reading(&self.lock, rt);
         rows_there(&book, ticket, region)
     }
 
@@ -224,7 +178,7 @@ impl<'a> SharedBook<'a> {
     ) -> Result<Receipt, CommitFault<'a>>
         ensures { IsCommitAnswer ticket run.entry result }
     {
-        let mut book = self.writing(rt);
+        let mut book = writing(&self.lock, rt);
         commit_there(&mut book, ticket, run)
     }
 
@@ -232,7 +186,7 @@ impl<'a> SharedBook<'a> {
     pub fn end(&self, rt: &impl Wait, ticket: Ticket, run: Run<'a>) -> Result<(), EndFault<'a>>
         ensures { IsEndAnswer ticket run.entry result }
     {
-        let mut book = self.writing(rt);
+        let mut book = writing(&self.lock, rt);
         end_there(&mut book, ticket, run)
     }
 
@@ -240,13 +194,13 @@ impl<'a> SharedBook<'a> {
     pub fn withdraw(&self, rt: &impl Wait, ticket: Ticket) -> Result<(), Ticket>
         ensures { IfErr result (λ back. back ≡ ticket) }
     {
-        let mut book = self.writing(rt);
+        let mut book = writing(&self.lock, rt);
         withdraw_there(&mut book, ticket)
     }
 
     /// `Book::vacuum`.
     pub fn vacuum(&self, rt: &impl Wait) -> u64 {
-        self.writing(rt).vacuum()
+        writing(&self.lock, rt).vacuum()
     }
 
     /// The book, once nobody shares it.

@@ -6,11 +6,13 @@ ghost use Rattle.job_counter.specs.Passes.{counter_of, left_of, name_of, numbers
 use crate::desk::Locked;
 use crate::gate::Gate;
 use crate::job::Job;
+use crate::kept::SharedKept;
 use crate::limits::{MAX_JOBS, MAX_WORKERS};
-use crate::shared::SharedBook;
+use crate::lock::reading;
 use crate::worker::{Done, work};
 use job_counter::{Counter, Pass};
 use prog_check::ProgramSet;
+use state_log::Naming;
 use std::alloc::{AllocError, Global};
 use std::sync::Wait;
 use std::thread;
@@ -18,18 +20,18 @@ use std::thread::{JoinHandle, Scope, Threads};
 
 // What the workers of a run share.
 #[derive(Drop)]
-pub(crate) struct Shift<'e, 'a, R: Wait, G: Gate> {
+pub(crate) struct Shift<'e, 'a, R: Wait, G: Gate, J: Naming> {
     rt: &'e R,
     alloc: Global,
     set: &'a ProgramSet,
-    shared: &'e SharedBook<'a>,
+    shared: &'e SharedKept<'a, J>,
     jobs: &'e [Job],
     counter: &'e Counter,
     gate: &'e G,
 }
 
 // One worker over the shared book.
-fn work_shared<R: Wait, G: Gate>(shift: &Shift<'_, '_, R, G>, pass: Pass) -> Done
+fn work_shared<R: Wait, G: Gate, J: Naming>(shift: &Shift<'_, '_, R, G, J>, pass: Pass) -> Done
     requires counter { counter_of pass ≡ name_of shift.now.counter.now }
     requires numbers { numbers_of pass ≡ [] }
     requires few { length shift.now.jobs.now ≤ MAX_JOBS }
@@ -38,6 +40,7 @@ fn work_shared<R: Wait, G: Gate>(shift: &Shift<'_, '_, R, G>, pass: Pass) -> Don
         rt: shift.rt,
         shared: shift.shared,
         gate: shift.gate,
+        front: reading(&shift.shared.lock, shift.rt).front(),
         ended: 0,
         last: None,
     };
@@ -52,9 +55,9 @@ fn work_shared<R: Wait, G: Gate>(shift: &Shift<'_, '_, R, G>, pass: Pass) -> Don
 }
 
 // Starts workers until one cannot be started.
-fn start_all<'s, 'e: 's, 'a: 'e, R: Threads + Wait + Sync, G: Gate + Sync>(
+fn start_all<'s, 'e: 's, 'a: 'e, R: Threads + Wait + Sync, G: Gate + Sync, J: Naming + Send + Sync>(
     scope: &'s Scope<'s, &'e ()>,
-    shift: &'e Shift<'e, 'a, R, G>,
+    shift: &'e Shift<'e, 'a, R, G, J>,
     mut pass: Pass,
     workers: usize,
     handles: &mut Vec<JoinHandle<Done>>,
@@ -84,11 +87,11 @@ fn start_all<'s, 'e: 's, 'a: 'e, R: Threads + Wait + Sync, G: Gate + Sync>(
 
 /// What the workers did that could be started. All are joined. Without memory none was started,
 /// as the room for what they did is made before.
-pub(crate) fn run_threads<'a, R: Threads + Wait + Sync, G: Gate + Sync>(
+pub(crate) fn run_threads<'a, R: Threads + Wait + Sync, G: Gate + Sync, J: Naming + Send + Sync>(
     rt: &R,
     alloc: Global,
     set: &'a ProgramSet,
-    shared: &SharedBook<'a>,
+    shared: &SharedKept<'a, J>,
     jobs: &[Job],
     workers: usize,
     gate: &G,

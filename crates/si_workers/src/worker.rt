@@ -1,10 +1,11 @@
 //! One worker: the jobs that it draws, one after another.
 
-ghost use Rattle.std.specs.Prelude.{◌≡◌, ◌+◌, ◌<◌, ◌≤◌, ◌^◌, [], length, Some, IfOk};
+ghost use Rattle.std.specs.Prelude.{◌≡◌, ◌+◌, ◌<◌, ◌≤◌, ◌^◌, [], length, Some, IfOk, OnOk};
 ghost use Rattle.prog_tree.specs.declared.deed.End.TheVariants.{Ready};
-ghost use Rattle.prog_run.specs.View.{asked_region};
+ghost use Rattle.prog_run.specs.declared.next.Next.TheVariants.{Scan};
 ghost use Rattle.job_counter.specs.Passes.{counter_of, name_of, numbers_of};
 ghost use Rattle.si_workers.specs.Ended.{ended_by_try};
+ghost use Rattle.si_workers.specs.KnownStates.{IsFoundIn};
 ghost use Rattle.si_workers.specs.LastAnswer.{IsLastAnswer};
 ghost use Rattle.si_workers.specs.Work.{AreDrawn, HasCause, HasReplies, IsDrawn, IsReported};
 ghost use Rattle.si_workers.specs.Work.{TellsTries};
@@ -36,8 +37,11 @@ fn answer_region<'a, D: Desk<'a>>(
     run: &mut Run<'a>,
     region: &Region,
 ) -> Result<Next, Stop>
-    requires { asked_region run.old.asked ≡ Some region.now }
-    ensures { D.ended desk.new ≡ D.ended desk.old }
+    requires asked { run.old.asked ≡ Some (Scan region.now) }
+    requires found { IsFoundIn (D.known desk.old) ticket.now.start run.old }
+    ensures ended { D.ended desk.new ≡ D.ended desk.old }
+    ensures known { D.known desk.new ≡ D.known desk.old }
+    ensures found { OnOk result (IsFoundIn (D.known desk.old) ticket.now.start run.new) }
 {
     if let Some(rows) = run.rows_again(region) {
         let shared = rows.share()?;
@@ -54,7 +58,10 @@ fn step<'a, D: Desk<'a>>(
     ticket: &Ticket,
     run: &mut Run<'a>,
 ) -> Result<Next, Stop>
-    ensures { D.ended desk.new ≡ D.ended desk.old }
+    requires { IsFoundIn (D.known desk.old) ticket.now.start run.old }
+    ensures ended { D.ended desk.new ≡ D.ended desk.old }
+    ensures known { D.known desk.new ≡ D.known desk.old }
+    ensures found { OnOk result (IsFoundIn (D.known desk.old) ticket.now.start run.new) }
 {
     let next = run.advance()?;
     match next {
@@ -74,7 +81,10 @@ fn finish<'a, D: Desk<'a>>(
     ticket: &Ticket,
     run: &mut Run<'a>,
 ) -> Result<End, Stop>
-    ensures { D.ended desk.new ≡ D.ended desk.old }
+    requires { IsFoundIn (D.known desk.old) ticket.now.start run.old }
+    ensures ended { D.ended desk.new ≡ D.ended desk.old }
+    ensures known { D.known desk.new ≡ D.known desk.old }
+    ensures found { OnOk result (IsFoundIn (D.known desk.old) ticket.now.start run.new) }
 {
     for _turn in 0..u64::MAX {
         if let Next::Done(end) = step(desk, job, ticket, run)? {
@@ -91,7 +101,8 @@ fn commit<'a, D: Desk<'a>>(
     ticket: Ticket,
     run: Run<'a>,
 ) -> Result<JobEnd, Stop>
-    requires { D.ended desk.old < 2 ^ 63 }
+    requires room { D.ended desk.old < 2 ^ 63 }
+    requires found { IsFoundIn (D.known desk.old) ticket.start run }
     ensures ended { D.ended desk.new ≡ D.ended desk.old + ended_by_try result }
     ensures last { IfOk result (IsLastAnswer (D.last desk.new)) }
     ensures replies { IfOk result (HasReplies run.entry.replies) }
@@ -123,7 +134,8 @@ fn abort<'a, D: Desk<'a>>(
     run: Run<'a>,
     cause: Cause,
 ) -> Result<JobEnd, Stop>
-    requires { D.ended desk.old < 2 ^ 63 }
+    requires room { D.ended desk.old < 2 ^ 63 }
+    requires found { IsFoundIn (D.known desk.old) ticket.start run }
     ensures ended { D.ended desk.new ≡ D.ended desk.old + ended_by_try result }
     ensures last { IfOk result (IsLastAnswer (D.last desk.new)) }
     ensures cause { IfOk result (HasCause cause) }
