@@ -281,7 +281,23 @@ fn rows_in_pieces_outlive_the_look_that_found_them(rt: HostRuntime) -> Result<()
     assert!(rt; first.len() == 2 && first.total() == 13);
     let none = RowPieces::from_list(Sequence::new(rt.alloc()))?;
     assert!(rt; none.is_empty() && none.walk().is_empty());
-    assert!(rt; again.has_same_pieces(&again) && !again.has_same_pieces(&none));
+    Ok(())
+}
+
+#[test]
+fn rows_are_the_same_however_they_are_cut(rt: HostRuntime) -> Result<(), AllocError> {
+    let mut parts = Vec::new(rt.alloc());
+    parts.push(piece(rt.alloc(), &[(1, 9)])?)?;
+    parts.push(piece(rt.alloc(), &[(2, 4), (5, -3)])?)?;
+    let cut = RowPieces::from_pieces(rt.alloc(), parts)?;
+    let mut whole = Vec::new(rt.alloc());
+    whole.push(piece(rt.alloc(), &[(1, 9), (2, 4), (5, -3)])?)?;
+    let uncut = RowPieces::from_pieces(rt.alloc(), whole)?;
+    let mut start = Vec::new(rt.alloc());
+    start.push(piece(rt.alloc(), &[(1, 9), (2, 4)])?)?;
+    let shorter = RowPieces::from_pieces(rt.alloc(), start)?;
+    assert!(rt; cut.is_same(&cut.share()?) && cut.is_same(&uncut) && uncut.is_same(&cut));
+    assert!(rt; !cut.is_same(&shorter) && !shorter.is_same(&uncut));
     Ok(())
 }
 

@@ -117,30 +117,18 @@ impl Store {
         self.blocks.scan(&self.chains, start, region)
     }
 
-    // Whether some rows are those of a region after the first `start` commits, cut into the same
-    // pieces as a scan cuts them.
-    fn has_same_pieces(&self, start: u64, region: &Region, rows: &RowPieces) -> bool
-        requires above { self.now.floor ≤ start }
-        requires within { start ≤ self.now.commits }
-        ensures { IsTrue result → InEachHistory self.now (λ opening ws.
-            rows_in region.now (state_at opening ws start) ≡ rows.now) }
-    {
-        match self.scan_pieces(start, region) {
-            Ok(found) => found.has_same_pieces(rows),
-            Err(_) => false,
-        }
-    }
-
     /// Whether some rows are those of a region after the first `start` commits, but for those of
-    /// some `own` cells. Rows in several pieces are compared with those of blocks first.
+    /// some `own` cells. Rows in several pieces are compared with those of blocks.
     pub fn are_held(&self, start: u64, region: &Region, own: &RisingCells, rows: &RowPieces) -> bool
         requires above { self.now.floor ≤ start }
         requires within { start ≤ self.now.commits }
         ensures { InEachHistory self.now (λ opening ws.
             IsTrue result ↔ (rows_left region.now own.now (state_at opening ws start) ≡ rows.now)) }
     {
-        if own.is_empty() && rows.pieces().len() > 1 && self.has_same_pieces(start, region, rows) {
-            return true;
+        if own.is_empty() && rows.pieces().len() > 1 {
+            if let Ok(found) = self.scan_pieces(start, region) {
+                return found.is_same(rows);
+            }
         }
         self.chains.are_held(start, region, own, rows)
     }

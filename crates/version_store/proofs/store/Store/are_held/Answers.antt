@@ -1,4 +1,4 @@
-use Rattle.std.proofs.Common.{◌≡◌, ◌∙◌, [], refl, sym, subst}
+use Rattle.std.proofs.Common.{◌≡◌, ◌∙◌, [], sym, subst}
 use Rattle.prog_tree.specs.Evaluation.{rows_left}
 use Rattle.prog_tree.specs.Table.{rows_in}
 use Rattle.prog_tree.proofs.TableStates.{none_left_out}
@@ -13,9 +13,11 @@ returns c =
     c.are_held.ensures c.self.invariant.0 (rows_left c.args.region.now c.args.own.now (state_at opening ws c.args.start))
     (sees_left _ opening ws stands c.args.region.now c.args.own.now c.args.start above))
 
-pub returns-then-has_same_pieces : goal.returns-then-has_same_pieces
-returns-then-has_same_pieces c = λ opening ws stands.
+pub returns-in-Ok : goal.returns-in-Ok
+returns-in-Ok c = λ opening ws stands.
     let rows = rows_in c.args.region.now (state_at opening ws c.args.start) in
     let none : c.args.own.now ≡ [] = c.is_empty.ensures.0 c.if-is_empty.true in
-    let same : rows ≡ c.args.rows.now = c.has_same_pieces.ensures c.if-has_same_pieces.true opening ws stands in
-    (λ t. subst (λ own. rows_left c.args.region.now own (state_at opening ws c.args.start) ≡ c.args.rows.now) (sym none) (none_left_out rows ∙ same), λ e. refl)
+    let found = c.in-Ok.ensures opening ws stands in
+    let left : rows_left c.args.region.now c.args.own.now (state_at opening ws c.args.start) ≡ rows =
+    subst (λ own. rows_left c.args.region.now own (state_at opening ws c.args.start) ≡ rows) (sym none) (none_left_out rows) in
+    (λ t. left ∙ sym found ∙ c.is_same.ensures.0 t, λ e. c.is_same.ensures.1 (found ∙ sym left ∙ e))

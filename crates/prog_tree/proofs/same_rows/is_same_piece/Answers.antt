@@ -4,7 +4,7 @@ use Rattle.std.proofs.lemmas.Slice.Eq.{slice_eq-Decides}
 use Rattle.std.specs.Bool.{Decides}
 use Rattle.prog_tree.specs.contracts.cell.CellPartialEq.TheImpl.{ghosts}
 use Rattle.prog_tree.specs.declared.cell.Cell.{Cell}
-use Rattle.prog_tree.proofs.same_pieces.is_same_piece.Goals as goal
+use Rattle.prog_tree.proofs.same_rows.is_same_piece.Goals as goal
 
 -- rows are equal where cells and values are
 pub returns : goal.returns

@@ -1,5 +1,5 @@
 use Rattle.std.proofs.Common.{◌≡◌, ◌↔◌, length}
-use Rattle.prog_tree.proofs.look.same_row_by_row.Given as goal
+use Rattle.prog_tree.proofs.same_rows.same_row_by_row.Given as goal
 
 -- what is left is the same where all is
 abbrev pub invariant-loop-row : goal.invariant-loop-row

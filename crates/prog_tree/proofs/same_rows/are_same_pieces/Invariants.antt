@@ -1,6 +1,6 @@
 use Rattle.std.proofs.Common.{◌≡◌, length}
 use Rattle.prog_tree.specs.Pieces.{rows_of}
-use Rattle.prog_tree.proofs.same_pieces.are_same_pieces.Given as goal
+use Rattle.prog_tree.proofs.same_rows.are_same_pieces.Given as goal
 
 -- where what is left is the same, all is
 abbrev pub invariant-loop-piece : goal.invariant-loop-piece
