@@ -15,8 +15,8 @@ use Rattle.prog_tree.specs.Table.{cell_cmp, Cells, at_cell, is_in}
 use Rattle.prog_tree.proofs.CellSets.{turned}
 use Rattle.prog_tree.proofs.TableStates.{same_cell}
 use Rattle.version_store.specs.declared.block.Slot.{Slot}
-use Rattle.version_store.specs.Blocks.{ended_slot, AreEndedIn, EndsAt, StandsBehind, AreApart, HasAt, IsKeyOf, LeavesFree}
-use Rattle.version_store.proofs.BlockLaws.{IsPut, IsTaken, put_cases, put_ends, taken_was, less_le, le_less, never_less, le_of, IsFirst, none_passes}
+use Rattle.version_store.specs.Blocks.{ended_slot, AreEndedIn, EndsAt, StandsBehind, AreApart, HasAt, IsKeyOf, IsPut, IsTaken, LeavesFree}
+use Rattle.version_store.proofs.BlockLaws.{put_cases, put_ends, taken_was, less_le, le_less, never_less, le_of, IsFirst, none_passes}
 
 -- the keys from a cell on
 abbrev pub is_from : Cell → Cell → Bool

@@ -18,7 +18,7 @@ use Rattle.prog_tree.proofs.TableLemmas.{cell_total}
 use Rattle.prog_tree.proofs.TableStates.{same_cell, cell_is}
 use Rattle.version_store.specs.declared.block.Block.{Block}
 use Rattle.version_store.specs.declared.block.Slot.{Slot}
-use Rattle.version_store.specs.Blocks.{IsTrueBlock, IsTrueSlot, IsTrueAt, AreTrue, ended, ended_slot, EndsBefore, AreEnded, IsKeyOf, with_block}
+use Rattle.version_store.specs.Blocks.{IsTrueBlock, IsTrueSlot, IsTrueAt, AreTrue, IsPut, IsTaken, ended, ended_slot, EndsBefore, AreEnded, IsKeyOf, with_block}
 use Rattle.version_store.specs.StandsFor.{Chain}
 use Rattle.version_store.proofs.FoundLaws.{cells-filter, at_cell-filter}
 
@@ -71,14 +71,6 @@ ended_still n number slot h = (omega (arith, h.0), go slot.older h.1)
     go (Some block) h = omega (arith, h)
 
 -- ---- one written slot
-
--- n is m with a slot at a key
-abbrev pub IsPut : Cells Slot → Cells Slot → Cell → Slot → Type 0
-IsPut m n key slot = (c : Cell) → at_cell n c ≡ cond (is_same_cell key c) (Some slot) (at_cell m c)
-
--- n is m without the slot of a key
-abbrev pub IsTaken : Cells Slot → Cells Slot → Cell → Type 0
-IsTaken m n key = (c : Cell) → at_cell n c ≡ cond (is_same_cell key c) None (at_cell m c)
 
 pub put_true : (floor : ℕ) (chains : Cells Chain) (m n : Cells Slot) (key : Cell) (slot : Slot) → IsTrueSlot floor chains slot → IsPut m n key slot → AreTrue floor chains m → AreTrue floor chains n
 put_true floor chains m n key slot h put all c = subst (IsTrueAt floor chains) (sym (put c)) (go (is_same_cell key c))

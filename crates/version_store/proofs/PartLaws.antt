@@ -1,6 +1,7 @@
 -- The rows of a part of a region.
 use Rattle.std.proofs.Common.{◌≡◌, ◌∙◌, ℕ, ◌+◌, ◌<◌, ℤ, Bool, true, false, cond, ◌==◌, ◌&&◌, [], ◌∷◌, ◌++◌, length, drop, get_or, refl, ap, sym, subst, arith, add-one, append_assoc, drop-cons}
-use Rattle.std.specs.Prelude.{Option, None, int_le}
+use Rattle.std.specs.Int.{int_max, int_min, w64}
+use Rattle.std.specs.Prelude.{Option, None, FitsSigned, int_le, int_lt}
 use Rattle.std.proofs.lemmas.Bool.{and_parts}
 use Rattle.std.proofs.lemmas.Int.{ints}
 use Rattle.prog_tree.specs.declared.cell.Cell.{Cell}
@@ -8,7 +9,7 @@ use Rattle.prog_tree.specs.declared.cell.Region.{Region}
 use Rattle.prog_tree.specs.Table.{is_in, lies_between, rows_in, TableState}
 use Rattle.prog_tree.proofs.TableStates.{IsTableState-rows_in, row_at-where}
 use Rattle.version_store.specs.declared.block.Slot.{Slot}
-use Rattle.version_store.specs.Blocks.{IsBySlot, IsOfSlot, IsPart}
+use Rattle.version_store.specs.Blocks.{in_common, IsBySlot, IsCommon, IsOfSlot, IsPart}
 use Rattle.version_store.specs.Reading.{chain_at, value_at}
 use Rattle.version_store.specs.Regions.{seen_in, IsSeen}
 use Rattle.version_store.specs.StandsFor.{Chain}
@@ -75,3 +76,24 @@ by_part n slot part rows is_part of_slot floor above chains holds = (
 -- all rows of a slot
 pub by_whole : (n : ℕ) (slot : Slot) (part : Region) (rows : TableState) → part ≡ slot.region → IsOfSlot n slot rows → IsBySlot n slot part rows
 by_whole n slot part rows same of_slot = subst (λ (r : Region). IsBySlot n slot r rows) (sym same) of_slot
+
+-- what two regions have in common is a part of both where there is such a part
+pub common_parts : (one other part found : Region) → found ≡ in_common one other → IsCommon one other part → IsPart found one × IsPart found other
+common_parts one other part found is common =
+    let same : part ≡ found = common.0 ∙ sym is in
+    (subst (λ (r : Region). IsPart r one) same common.1, subst (λ (r : Region). IsPart r other) same common.2)
+
+-- the greater and the lesser of two i64 are i64
+pub max_fits : (x y : ℤ) → FitsSigned w64 x → FitsSigned w64 y → FitsSigned w64 (int_max x y)
+max_fits x y a b = go (int_lt y x)
+  where
+    go : (t : Bool) → FitsSigned w64 (cond t x y)
+    go true = a
+    go false = b
+
+pub min_fits : (x y : ℤ) → FitsSigned w64 x → FitsSigned w64 y → FitsSigned w64 (int_min x y)
+min_fits x y a b = go (int_lt y x)
+  where
+    go : (t : Bool) → FitsSigned w64 (cond t y x)
+    go true = b
+    go false = a

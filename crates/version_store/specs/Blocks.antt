@@ -1,11 +1,12 @@
 -- Blocks: the rows of some cells, which scans share.
 use Rattle.std.specs.Prelude.{◌≡◌, ℕ, ◌<◌, ◌≤◌, ⊤, ℤ, ◌+ℤ◌, ◌-ℤ◌, ◌≤ℤ◌, ◌<ℤ◌, pos, leb, min, true, false, List, Option, Some, None, IfSome, option_map, if◌then◌else◌, ◌⊎◌}
+use Rattle.std.specs.Int.{int_max, int_min}
 use Rattle.std.specs.Ordering.{is_gt}
 use Rattle.std.specs.declared.cmp.Ordering.TheVariants.{Less}
 use Rattle.prog_tree.specs.declared.cell.Cell.{Cell}
 use Rattle.prog_tree.specs.declared.cell.Region.{Region}
 use Rattle.prog_tree.specs.Number.{least, greatest}
-use Rattle.prog_tree.specs.Table.{cell_cmp, is_in, Cells, at_cell, TableState}
+use Rattle.prog_tree.specs.Table.{cell_cmp, is_in, is_same_cell, Cells, at_cell, TableState}
 use Rattle.version_store.specs.declared.block.Block.{Block}
 use Rattle.version_store.specs.declared.block.Slot.{Slot}
 use Rattle.version_store.specs.declared.stretch.Stretch.{Stretch}
@@ -45,6 +46,10 @@ SaysOf n block = (block.since ≤ n) × (n < block.till)
 abbrev pub IsSilent : (n : ℕ) → Option Block → Type 0
 IsSilent n older = IfSome older (λ block. SaysOf n block → ⊥)
 
+-- no block of a slot does
+abbrev pub IsSilentSlot : (n : ℕ) → Slot → Type 0
+IsSilentSlot n slot = (SaysOf n slot.newest → ⊥) × IsSilent n slot.older
+
 -- a block has the rows of a region after each number of commits from a floor on, from `since` on and below `till`
 abbrev pub IsTrueBlock : (floor : ℕ) → Cells Chain → Region → Block → Type 0
 IsTrueBlock floor chains region block =
@@ -82,6 +87,16 @@ IsBySlot n slot region rows =
 -- rows are those of the slot's own region
 abbrev pub IsOfSlot : (n : ℕ) → Slot → TableState → Type 0
 IsOfSlot n slot rows = IsBySlot n slot slot.region rows
+
+-- ---- slots change
+
+-- slots are those before, but for one at a key
+abbrev pub IsPut : (before after : Cells Slot) → (key : Cell) → Slot → Type 0
+IsPut before after key slot = (c : Cell) → at_cell after c ≡ if is_same_cell key c then Some slot else at_cell before c
+
+-- slots are those before, but for none at a key
+abbrev pub IsTaken : (before after : Cells Slot) → (key : Cell) → Type 0
+IsTaken before after key = (c : Cell) → at_cell after c ≡ if is_same_cell key c then None else at_cell before c
 
 -- ---- a slot takes a block
 
@@ -184,3 +199,19 @@ AreEnds region low high = LieIn region low high × AreInner low high
 abbrev pub IsPart : Region → Region → Type 0
 IsPart inner region =
     (inner ≡ part_between region inner.first_low inner.first_high) × AreEnds region inner.first_low inner.first_high
+
+-- what two regions have in common by their first column
+abbrev pub in_common : Region → Region → Region
+in_common one other = part_between other (int_max one.first_low other.first_low) (int_min one.first_high other.first_high)
+
+-- that is a part of both
+abbrev pub IsCommon : (one other part : Region) → Type 0
+IsCommon one other part = (part ≡ in_common one other) × IsPart part one × IsPart part other
+
+-- it is not
+abbrev pub HaveNoneInCommon : (one other : Region) → Type 0
+HaveNoneInCommon one other = (part : Region) → IsCommon one other part → ⊥
+
+-- a region goes on to where another begins, in the same table
+abbrev pub Reaches : (region other : Region) → Type 0
+Reaches region other = (region.table ≡ other.table) × (other.first_low ≤ℤ region.first_high)

@@ -2,7 +2,7 @@
 ghost use Rattle.std.specs.Prelude.{◌≡◌, ◌↔◌, ℕ, None, IfSome, IsTrue, option_map};
 ghost use Rattle.prog_tree.specs.Table.{Cells};
 ghost use Rattle.version_store.specs.Blocks.{IsTrueBlock, IsTrueSlot, IsOfOlder, IsOfSlot};
-ghost use Rattle.version_store.specs.Blocks.{IsSilent, SaysOf, ended, ended_slot, with_block};
+ghost use Rattle.version_store.specs.Blocks.{IsSilent, IsSilentSlot, SaysOf, ended, ended_slot, with_block};
 ghost use Rattle.version_store.specs.StandsFor.{Chain};
 
 use prog_tree::{Piece, Region};
@@ -66,8 +66,7 @@ impl Slot {
     /// The rows of its cells after the first `start` commits, if it has them.
     pub fn rows_at(&self, start: u64) -> Option<&Piece>
         ensures rows { IfSome result (λ rows. IsOfSlot start self.now rows.now) }
-        ensures none { result ≡ None →
-            (SaysOf start self.now.newest → ⊥) × IsSilent start self.now.older }
+        ensures none { result ≡ None → IsSilentSlot start self.now }
     {
         if self.newest.is_of(start) {
             return Some(&self.newest.rows);

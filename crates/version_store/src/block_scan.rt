@@ -1,15 +1,16 @@
 //! Scans that share the rows of blocks.
-ghost use Rattle.std.specs.Prelude.{◌≡◌, ◌↔◌, ◌++◌, ◌≤◌, ◌<ℤ◌, ℕ, IfOk, IfSome, IsTrue, OnOk};
+ghost use Rattle.std.specs.Prelude.{◌≡◌, ◌↔◌, ◌⊎◌, ◌++◌, ◌≤◌, ◌<ℤ◌, ℕ, None, IfOk, IfSome, IsTrue, OnOk};
 ghost use Rattle.prog_tree.specs.Number.{least, greatest};
 ghost use Rattle.prog_tree.specs.Pieces.{rows_of};
 ghost use Rattle.prog_tree.specs.Table.{TableState, rows_in};
-ghost use Rattle.version_store.specs.Blocks.{AreEnds, AreInner, AreTrue, IsBySlot, IsPart};
-ghost use Rattle.version_store.specs.Blocks.{LieIn, part_before, part_behind, part_between};
+ghost use Rattle.version_store.specs.Blocks.{AreEnds, AreInner, AreTrue, HaveNoneInCommon};
+ghost use Rattle.version_store.specs.Blocks.{IsBySlot, IsCommon, IsPart, IsSilentSlot, LieIn};
+ghost use Rattle.version_store.specs.Blocks.{in_common, part_before, part_behind, part_between};
 ghost use Rattle.version_store.specs.Reading.{AllRise};
 ghost use Rattle.version_store.specs.Regions.{seen_in, IsSeen};
 
 use crate::block::Slot;
-use crate::blocks::{Blocks, stands_behind};
+use crate::blocks::{Blocks, reaches};
 use crate::chains::Chains;
 use prog_tree::{Cell, Piece, Region, RowPieces};
 use std::alloc::{AllocError, Global};
@@ -76,14 +77,21 @@ fn is_part(inner: &Region, region: &Region) -> bool
     are_ends(region, low, high) && inner.is_same(&part_between(region, low, high))
 }
 
-// The part that two regions have in common, if they have one.
-fn common_part(one: &Region, other: &Region) -> Option<Region>
-    ensures one { IfSome result (λ part. IsPart part one.now) }
-    ensures other { IfSome result (λ part. IsPart part other.now) }
+// What two regions have in common by their first column.
+fn in_common(one: &Region, other: &Region) -> Region
+    ensures { result ≡ in_common one.now other.now }
 {
     let low = one.first_low.max(other.first_low);
     let high = one.first_high.min(other.first_high);
-    let part = part_between(other, low, high);
+    part_between(other, low, high)
+}
+
+// The part that two regions have in common, if they have one.
+fn common_part(one: &Region, other: &Region) -> Option<Region>
+    ensures part { IfSome result (IsCommon one.now other.now) }
+    ensures none { result ≡ None → HaveNoneInCommon one.now other.now }
+{
+    let part = in_common(one, other);
     if is_part(&part, one) && is_part(&part, other) {
         Some(part)
     } else {
@@ -120,8 +128,9 @@ impl Slot {
         start: u64,
         part: &Region,
     ) -> Result<Option<Piece>, AllocError>
-        ensures { IfOk result (λ found. IfSome found (λ rows.
+        ensures rows { IfOk result (λ found. IfSome found (λ rows.
             IsPart part.now self.now.region → IsBySlot start self.now part.now rows)) }
+        ensures none { IfOk result (λ found. found ≡ None → IsSilentSlot start self.now) }
     {
         let Some(rows) = self.rows_at(start) else {
             return Ok(None);
@@ -140,9 +149,12 @@ impl Slot {
         start: u64,
         region: &Region,
     ) -> Result<Option<PartRows>, AllocError>
-        ensures part { IfOk result (λ found. IfSome found (λ inside. IsPart inside.part region.now)) }
+        ensures part { IfOk result (λ found. IfSome found (λ inside.
+            IsCommon self.now.region region.now inside.part)) }
         ensures rows { IfOk result (λ found. IfSome found (λ inside.
             IsBySlot start self.now inside.part inside.rows)) }
+        ensures none { IfOk result (λ found. found ≡ None →
+            IsSilentSlot start self.now ⊎ HaveNoneInCommon self.now.region region.now) }
     {
         let Some(part) = common_part(&self.region, region) else {
             return Ok(None);
@@ -196,7 +208,7 @@ impl Blocks {
         };
         let mut left = *region;
         for (_, slot) in self.slots.range(low..) {
-            if stands_behind(&slot.region, region) {
+            if !reaches(region, &slot.region) {
                 break;
             }
             if let Some(inside) = slot.rows_inside(self.alloc, start, &left)? {

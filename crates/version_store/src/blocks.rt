@@ -1,13 +1,14 @@
 //! The blocks of all cells.
-ghost use Rattle.std.specs.Prelude.{◌≡◌, ◌↔◌, ◌≤◌, ◌/◌, [], length, true, is_some, IfSome, IsTrue};
-ghost use Rattle.std.specs.Prelude.{None, OnOk, Some, option_map};
+ghost use Rattle.std.specs.Prelude.{◌≡◌, ◌↔◌, ◌≤◌, ◌<◌, ◌/◌, [], length, true, is_some, IfSome, IsTrue};
+ghost use Rattle.std.specs.Prelude.{OnOk, Some};
 ghost use Rattle.prog_tree.specs.declared.cell.Cell.{Cell};
 ghost use Rattle.prog_tree.specs.ChangeSet.{change_at};
 ghost use Rattle.prog_tree.specs.Corners.{AreCorners};
 ghost use Rattle.prog_tree.specs.Table.{at_cell, Cells};
 ghost use Rattle.version_store.specs.Blocks.{AreEnded, AreEndedIn, HasAt, HasCell, HasSlot, IsKeyOf};
-ghost use Rattle.version_store.specs.Blocks.{IsTrueBlock, LeavesFree, StandsBehind, StaysTrue};
-ghost use Rattle.version_store.specs.Blocks.{one_block, with_block};
+ghost use Rattle.version_store.specs.Blocks.{IsPut, IsTaken, IsTrueBlock, LeavesFree, Reaches};
+ghost use Rattle.version_store.specs.Blocks.{StandsBehind, StaysTrue, one_block, with_block};
+ghost use Rattle.version_store.specs.declared.block.Slot.{Slot};
 ghost use Rattle.version_store.specs.StandsFor.{Chain};
 
 use crate::block::{Block, Slot};
@@ -38,9 +39,11 @@ impl Model for Blocks {
     ghost invariant = { λ b. AreApart b.slots.entries };
 }
 
-/// Whether the cells of a slot's region all come behind those of a region.
-pub fn stands_behind(slot: &Region, region: &Region) -> bool {
-    slot.table != region.table || slot.first_low > region.first_high
+/// Whether a region goes on to where the one of a slot begins.
+pub fn reaches(region: &Region, slot: &Region) -> bool
+    ensures { IsTrue result ↔ Reaches region.now slot.now }
+{
+    region.table == slot.table && slot.first_low <= region.first_high
 }
 
 // Whether each cell of a region comes behind a cell.
@@ -90,6 +93,7 @@ impl Blocks {
     /// gone leave theirs behind.
     pub fn limit(&mut self, cells: usize)
         ensures keeps { length self.old ≤ cells / FEWEST_CELLS → self.new ≡ self.old }
+        ensures drops { cells / FEWEST_CELLS < length self.old → self.new ≡ [] }
         ensures stays { (chains : Cells Chain) → StaysTrue chains self.old self.new }
     {
         if self.slots.len() > cells / FEWEST_CELLS {
@@ -163,7 +167,7 @@ impl Blocks {
     pub fn insert(&mut self, region: &Region, block: Block) -> Result<(), AllocError>
         ensures inserted { OnOk result ((low high : Cell) →
             AreCorners region.now (Some (low, high)) → LeavesFree low high self.old →
-            at_cell self.new high ≡ Some (one_block region.now block)) }
+            IsPut self.old self.new high (one_block region.now block)) }
         ensures stays { (chains : Cells Chain) →
             IsTrueBlock 0 chains region.now block →
             StaysTrue chains self.old self.new }
@@ -185,7 +189,7 @@ impl Blocks {
 
     /// Drops the slot of a key.
     pub fn remove(&mut self, key: &Cell)
-        ensures gone { at_cell self.new key.now ≡ None }
+        ensures gone { IsTaken self.old self.new key.now }
         ensures stays { (chains : Cells Chain) → StaysTrue chains self.old self.new }
     {
         let _ = self.slots.remove(key);
@@ -193,8 +197,10 @@ impl Blocks {
 
     /// Adds a block to the slot of a key, where that is just of this region.
     pub fn add(&mut self, key: &Cell, region: &Region, block: Block)
-        ensures added { HasSlot self.old key.now region.now →
-            at_cell self.new key.now ≡ option_map (with_block block) (at_cell self.old key.now) }
+        ensures added { HasSlot self.old key.now region.now → (slot : Slot) →
+            at_cell self.old key.now ≡ Some slot →
+            IsPut self.old self.new key.now (with_block block slot) }
+        ensures kept { (HasSlot self.old key.now region.now → ⊥) → self.new ≡ self.old }
         ensures stays { (chains : Cells Chain) →
             IsTrueBlock 0 chains region.now block →
             StaysTrue chains self.old self.new }

@@ -4,7 +4,7 @@ ghost use Rattle.version_store.specs.Blocks.{StaysTrue};
 ghost use Rattle.version_store.specs.Reading.{AllRise};
 
 use crate::block_walk::NEW_CELLS;
-use crate::blocks::{Blocks, stands_behind};
+use crate::blocks::{Blocks, reaches};
 use crate::chains::Chains;
 use prog_tree::{Cell, Region};
 use std::alloc::AllocError;
@@ -33,7 +33,7 @@ impl Blocks {
         let mut left = *region;
         for (_, slot) in self.slots.range(low..) {
             let part = slot.region;
-            if stands_behind(&part, region) {
+            if !reaches(region, &part) {
                 break;
             }
             let before = Region {

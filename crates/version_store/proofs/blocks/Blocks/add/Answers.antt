@@ -1,14 +1,14 @@
 use Rattle.std.proofs.Common.{◌≡◌, ◌∙◌, ap, subst, sym}
-use Rattle.std.specs.Prelude.{Some, IsSome, option_map}
+use Rattle.std.specs.Prelude.{IsSome, option_map}
 use Rattle.std.specs.BTreeMap.{BTreeMap}
 use Rattle.std.proofs.lemmas.Option.{same_Some}
 use Rattle.prog_tree.specs.declared.cell.Cell.{Cell}
 use Rattle.prog_tree.specs.declared.cell.Region.{Region}
 use Rattle.prog_tree.specs.Table.{at_cell}
 use Rattle.version_store.specs.declared.block.Slot.{Slot}
-use Rattle.version_store.specs.Blocks.{AreApart, IsTrueBlock, with_block}
+use Rattle.version_store.specs.Blocks.{AreApart, IsPut, IsTrueBlock, with_block}
 use Rattle.version_store.proofs.ApartLaws.{apart_put}
-use Rattle.version_store.proofs.BlockLaws.{put_at, put_found, put_true, found_true, with_block_region}
+use Rattle.version_store.proofs.BlockLaws.{put_found, put_true, found_true, with_block_region}
 use Rattle.version_store.proofs.blocks.Blocks.add.Goals as goal
 
 pub invariant_of-self : goal.invariant_of-self
@@ -37,7 +37,10 @@ returns c =
     let region : old.region ≡ c.args.region.now =
     same_Some old.region c.args.region.now (ap (option_map (λ (s : Slot). s.region)) c.in-Some.ensures.value ∙ has) in
     rw (← c.self.view_is) (record {
-      added = λ held. put_at m n key slot put ∙ ap Some c.add.ensures.takes ∙ ap (option_map (with_block block)) c.in-Some.ensures.value;
+      added = λ held found at.
+          let is : slot ≡ with_block block found = c.add.ensures.takes ∙ ap (with_block block) (same_Some old found (c.in-Some.ensures.value ∙ at)) in
+          subst (IsPut m n key) is put;
+      kept = λ never. absurd (never has);
       stays = λ chains fresh floor all.
           put_true floor chains m n key slot
           (c.add.ensures.true_slot floor chains (subst (λ (r : Region). IsTrueBlock 0 chains r block) (sym region) fresh) (found_true floor chains m key old c.in-Some.ensures.value all)) put all;

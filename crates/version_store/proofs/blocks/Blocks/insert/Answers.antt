@@ -1,9 +1,8 @@
-use Rattle.std.proofs.Common.{◌∙◌, ap, subst, sym}
+use Rattle.std.proofs.Common.{subst, sym}
 use Rattle.prog_tree.specs.declared.cell.Cell.{Cell}
-use Rattle.prog_tree.specs.Table.{at_cell}
-use Rattle.version_store.specs.Blocks.{AreApart, LeavesFree}
+use Rattle.version_store.specs.Blocks.{AreApart, IsPut, LeavesFree, one_block}
 use Rattle.version_store.proofs.ApartLaws.{apart_new, one_high, one_low}
-use Rattle.version_store.proofs.BlockLaws.{put_at, put_true, true_from}
+use Rattle.version_store.proofs.BlockLaws.{put_true, true_from}
 use Rattle.version_store.proofs.blocks.Blocks.insert.Goals as goal
 
 pub invariant_of-self : goal.invariant_of-self
@@ -21,7 +20,7 @@ returns c =
     let put = c.in_ok-insert.ensures.updates.0 in
     rw (← c.self.view_is) (record {
       inserted = λ low high corners free.
-          ap (at_cell n) (one_high c.args.region.now low high c.in-Some.low c.in-Some.high corners c.in-Some.ensures) ∙ put_at m n c.in-Some.high _ put;
+          subst (λ h. IsPut m n h (one_block c.args.region.now c.args.block)) (sym (one_high c.args.region.now low high c.in-Some.low c.in-Some.high corners c.in-Some.ensures)) put;
       stays = λ chains fresh floor all. put_true floor chains m n c.in-Some.high _ (true_from floor chains _ _ fresh, tt) put all;
     })
 

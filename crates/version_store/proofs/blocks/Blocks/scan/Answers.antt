@@ -7,7 +7,7 @@ use Rattle.prog_tree.specs.Pieces.{rows_of}
 use Rattle.prog_tree.specs.Table.{TableState}
 use Rattle.version_store.specs.declared.block.Slot.{Slot}
 use Rattle.version_store.specs.declared.block_scan.PartRows.{PartRows}
-use Rattle.version_store.specs.Blocks.{IsBySlot, IsPart}
+use Rattle.version_store.specs.Blocks.{IsBySlot, IsCommon}
 use Rattle.version_store.specs.Regions.{seen_in, IsSeen}
 use Rattle.version_store.proofs.ApartLaws.{is_from}
 use Rattle.version_store.proofs.BlockLaws.{found_true}
@@ -38,7 +38,7 @@ loop-slot-preserved-in-Some-3 c =
     let slot = c.in-Some-2.slot.now in
     let key = c.in-Some-2.field-0-0.now in
     let inside = c.in-Some-3.inside in
-    let is_part = subst (λ (o : Option PartRows). IfSome o (λ (x : PartRows). IsPart x.part c.loop-slot.left)) c.in-Some-3.is c.in_ok-inside.ensures.part in
+    let is_part = (subst (λ (o : Option PartRows). IfSome o (λ (x : PartRows). IsCommon slot.region c.loop-slot.left x.part)) c.in-Some-3.is c.in_ok-inside.ensures.part).2 in
     let by_slot = subst (λ (o : Option PartRows). IfSome o (λ (x : PartRows). IsBySlot start slot x.part x.rows)) c.in-Some-3.is c.in_ok-inside.ensures.rows in
     let among = c.loop-slot.invariant.among in
     let steps = c.in-Some-2.ensures.steps in
