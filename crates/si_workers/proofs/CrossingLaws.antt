@@ -34,9 +34,9 @@ use Rattle.state_log.proofs.front.Front.TheSendSync as front-crossing
 use Rattle.state_log.proofs.front.Head.TheSendSync as head-crossing
 use Rattle.si_workers.specs.contracts.job.Job as job
 use Rattle.si_workers.proofs.job.Job.TheSendSync as job-crossing
-use Rattle.si_workers.specs.contracts.kept.Kept as kept
-use Rattle.si_workers.specs.contracts.kept.Kept.TheInside as kept-inside
-use Rattle.si_workers.specs.contracts.kept.SharedKept as shared
+use Rattle.si_workers.specs.contracts.logged_book.LoggedBook as logged
+use Rattle.si_workers.specs.contracts.logged_book.LoggedBook.TheInside as logged-inside
+use Rattle.si_workers.specs.contracts.logged_book.SharedLoggedBook as shared
 use Rattle.si_workers.specs.contracts.threads.Shift as shift
 
 -- trees hold themselves, so they go by the rules that their rings have
@@ -88,21 +88,21 @@ module _ (a : NamedLft) (J : RattleType) (name : naming.Ghosts J.Denot) where
   front-sync : IsSync (front.the_row J name)
   front-sync = search (front-crossing.the_sync, std.crosses, sendable) depth 60 fits 20000
 
-  kept-send : IsSend (kept.the_row a J name)
-  kept-send =
-      view_send (kept-inside.the_row a J name) _ _ _ _
-      (recorded_send (kept-inside.the_field a J name).row _ _ (kept-inside.the_type a J name).to_one
-      (struct_send (shape (kept-inside.the_type a J name)) (book-send a, (head-send, (front-send, tt)))))
+  logged-send : IsSend (logged.the_row a J name)
+  logged-send =
+      view_send (logged-inside.the_row a J name) _ _ _ _
+      (recorded_send (logged-inside.the_field a J name).row _ _ (logged-inside.the_type a J name).to_one
+      (struct_send (shape (logged-inside.the_type a J name)) (book-send a, (head-send, (front-send, tt)))))
 
-  kept-sync : IsSync (kept.the_row a J name)
-  kept-sync =
-      view_sync (kept-inside.the_row a J name) _ _ _ _
-      (recorded_sync (kept-inside.the_field a J name).row _ _ (kept-inside.the_type a J name).to_one
-      (struct_sync (shape (kept-inside.the_type a J name)) (book-sync a, (head-sync, (front-sync, tt)))))
+  logged-sync : IsSync (logged.the_row a J name)
+  logged-sync =
+      view_sync (logged-inside.the_row a J name) _ _ _ _
+      (recorded_sync (logged-inside.the_field a J name).row _ _ (logged-inside.the_type a J name).to_one
+      (struct_sync (shape (logged-inside.the_type a J name)) (book-sync a, (head-sync, (front-sync, tt)))))
 
   -- readers share it
   shared-sync : IsSync (shared.the_row a J name)
-  shared-sync = search (kept-send, kept-sync, lock-crossing.the_field_sync, std.crosses, sendable) depth 60 fits 20000
+  shared-sync = search (logged-send, logged-sync, lock-crossing.the_field_sync, std.crosses, sendable) depth 60 fits 20000
 
 job-sync : IsSync job.the_row
 job-sync = search (job-crossing.the_sync, std.crosses, sendable) depth 60 fits 20000
@@ -113,7 +113,7 @@ counter-sync = search (counter-crossing.the_sync, std.crosses, sendable) depth 6
 pass-send : IsSend pass.the_row
 pass-send = search (pass-crossing.the_send, std.crosses, sendable) depth 60 fits 20000
 
--- so they share what all workers of a run share: the runtime, the allocator, the set, the kept book, the jobs,
+-- so they share what all workers of a run share: the runtime, the allocator, the set, the logged book, the jobs,
 -- the counter and the gate
 module _
     (e a : NamedLft) (R G J : RattleType) (name : naming.Ghosts J.Denot)

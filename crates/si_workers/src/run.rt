@@ -16,8 +16,8 @@ use crate::comparing::{broken, is_over};
 use crate::fault::WorkFault;
 use crate::gate::Gate;
 use crate::job::{Job, JobOutcome};
-use crate::kept::SharedKept;
 use crate::limits::{MAX_JOBS, MAX_WORKERS};
+use crate::logged_book::SharedLoggedBook;
 use crate::threads::run_threads;
 use crate::told::{Tiding, gather};
 use crate::worker::Done;
@@ -195,7 +195,7 @@ fn settle<'a>(
 }
 
 // What the workers did over a book, and the book that they leave.
-fn run_kept<'a, R: Threads + Wait + Sync, G: Gate + Sync, J: Naming + Send + Sync>(
+fn run_logged<'a, R: Threads + Wait + Sync, G: Gate + Sync, J: Naming + Send + Sync>(
     rt: &R,
     alloc: Global,
     book: Book<'a>,
@@ -210,7 +210,7 @@ fn run_kept<'a, R: Threads + Wait + Sync, G: Gate + Sync, J: Naming + Send + Syn
     ensures { IsTrueBook result.1 }
 {
     let set = book.set();
-    let shared = SharedKept::<J>::new(book, opened);
+    let shared = SharedLoggedBook::<J>::new(book, opened);
     let ran = run_threads(rt, alloc, set, &shared, jobs, workers, gate);
     (ran, shared.into_book())
 }
@@ -251,7 +251,15 @@ pub fn do_jobs<'a, R: Threads + Wait + Sync, G: Gate + Sync>(
         set: programs,
         opening: &kept,
     };
-    let (ran, book) = run_kept::<R, G, Brand>(rt, alloc, book, Opened::new(), jobs, workers, gate);
+    let (ran, book) = run_logged::<R, G, Brand>(
+        rt,
+        alloc,
+        book,
+        Opened::new(),
+        jobs,
+        workers,
+        gate,
+    );
     let Ok(done) = ran else {
         let book = book_over(given, book);
         return Err(WorkFault::Memory { book });

@@ -6,9 +6,9 @@ ghost use Rattle.job_counter.specs.Passes.{counter_of, left_of, name_of, numbers
 use crate::desk::Locked;
 use crate::gate::Gate;
 use crate::job::Job;
-use crate::kept::SharedKept;
 use crate::limits::{MAX_JOBS, MAX_WORKERS};
 use crate::lock::reading;
+use crate::logged_book::SharedLoggedBook;
 use crate::worker::{Done, work};
 use job_counter::{Counter, Pass};
 use prog_check::ProgramSet;
@@ -24,7 +24,7 @@ pub(crate) struct Shift<'e, 'a, R: Wait, G: Gate, J: Naming> {
     rt: &'e R,
     alloc: Global,
     set: &'a ProgramSet,
-    shared: &'e SharedKept<'a, J>,
+    shared: &'e SharedLoggedBook<'a, J>,
     jobs: &'e [Job],
     counter: &'e Counter,
     gate: &'e G,
@@ -91,7 +91,7 @@ pub(crate) fn run_threads<'a, R: Threads + Wait + Sync, G: Gate + Sync, J: Namin
     rt: &R,
     alloc: Global,
     set: &'a ProgramSet,
-    shared: &SharedKept<'a, J>,
+    shared: &SharedLoggedBook<'a, J>,
     jobs: &[Job],
     workers: usize,
     gate: &G,

@@ -6,11 +6,11 @@ use Rattle.si_workers.specs.Work.{AreTaken, AreDone, IsWorkFault}
 use Rattle.si_workers.proofs.RunLaws.{promised, safe-work, same-given}
 use Rattle.si_workers.proofs.run.do_jobs.Given.{Over}
 use Rattle.si_workers.proofs.run.do_jobs.Goals as goal
-use Rattle.si_workers.proofs.run.do_jobs.Goals.{After-run_kept-ran, After-settle}
+use Rattle.si_workers.proofs.run.do_jobs.Goals.{After-run_logged-ran, After-settle}
 
 -- the jobs are taken, and the book is compared with what was given
 as_given :
-    (g : Over) (c : After-run_kept-ran g) →
+    (g : Over) (c : After-run_logged-ran g) →
     (assigned c.args.workers (draft_tree c.set-programs.result.now) c.in-Ok.kept ≡ assigned c.args.workers (draft_tree c.args.set.now) c.args.opening)
     × AreTaken c.args.workers c.args.jobs.now
 as_given g c = (
@@ -29,7 +29,7 @@ settled :
 settled g c =
     let given = assigned c.args.workers (draft_tree c.args.set.now) c.args.opening in
     let taken = as_given g c.before.before in
-    promised _ given c.args.jobs.now c.in-Ok-ran.done.items _ c.settle.result taken.0 taken.1 c.run_kept-ran.ensures c.settle.ensures
+    promised _ given c.args.jobs.now c.in-Ok-ran.done.items _ c.settle.result taken.0 taken.1 c.run_logged-ran.ensures c.settle.ensures
 
 pub returns-clause-fault : goal.returns-clause-fault
 returns-clause-fault g c = (settled g (goal.at.returns-clause-fault g c).After-settle).1

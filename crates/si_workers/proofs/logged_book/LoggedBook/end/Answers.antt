@@ -1,5 +1,5 @@
 use Rattle.si_workers.proofs.KnownLaws.{states-kept-by-end}
-use Rattle.si_workers.proofs.kept.Kept.end.Goals as goal
+use Rattle.si_workers.proofs.logged_book.LoggedBook.end.Goals as goal
 
 pub invariant_of-self : goal.invariant_of-self
 invariant_of-self g c =

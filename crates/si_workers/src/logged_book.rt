@@ -40,13 +40,13 @@ impl<'b, 'a> Tells<StateAt<'b, 'a>> for Known {
 
 /// A book, and the states that it was in.
 #[derive(Drop)]
-pub(crate) struct Kept<'a, J: Naming> {
+pub(crate) struct LoggedBook<'a, J: Naming> {
     book: Book<'a>,
     head: Head<J>,
     front: Front<J>,
 }
 
-impl<'a, J: Naming> Model for Kept<'a, J> {
+impl<'a, J: Naming> Model for LoggedBook<'a, J> {
     ghost use Rattle.std.specs.Coded.{codes};
     ghost use Rattle.prog_tree.specs.contracts.stmt.Block as block;
     ghost use Rattle.history_book.specs.View.{BookView};
@@ -56,19 +56,19 @@ impl<'a, J: Naming> Model for Kept<'a, J> {
 
     ghost coded = { Prim.hlevel (codes, block.the_row.coded) };
 
-    ghost view = { λ k. k.book };
+    ghost view = { λ l. l.book };
 
-    ghost invariant = { λ k. AreStatesOf k.book k.front };
+    ghost invariant = { λ l. AreStatesOf l.book l.front };
 }
 
-impl<'a, J: Naming> Kept<'a, J> {
+impl<'a, J: Naming> LoggedBook<'a, J> {
     // A book, with an empty list, to which its first state is added.
     fn new(book: Book<'a>, head: Head<J>, front: Front<J>) -> Self
         requires { front ≡ [] }
     {
-        let mut kept = Kept { book, head, front };
-        kept.add_state();
-        kept
+        let mut logged = LoggedBook { book, head, front };
+        logged.add_state();
+        logged
     }
 
     // Adds a state to the list, where it has not all of them.
@@ -183,27 +183,27 @@ impl<'a, J: Naming> Kept<'a, J> {
     fn into_book(self) -> Book<'a>
         ensures { IsTrueBook result }
     {
-        let Kept { book, .. } = self;
+        let LoggedBook { book, .. } = self;
         // What the book holds is true, as its type says.
         let _commits = book.commits();
         book
     }
 }
 
-/// A kept book that workers share.
+/// A logged book that workers share.
 #[derive(Drop)]
-pub(crate) struct SharedKept<'a, J: Naming> {
-    pub(crate) lock: RwLock<Kept<'a, J>>,
+pub(crate) struct SharedLoggedBook<'a, J: Naming> {
+    pub(crate) lock: RwLock<LoggedBook<'a, J>>,
 }
 
-impl<'a, J: Naming> SharedKept<'a, J> {
+impl<'a, J: Naming> SharedLoggedBook<'a, J> {
     /// Shares a book, with an empty list.
     pub(crate) fn new(book: Book<'a>, opened: Opened) -> Self
         requires { opened.seen.book ≡ J.book }
     {
         let (head, front) = opened.named::<J>();
-        SharedKept {
-            lock: RwLock::new(Kept::new(book, head, front)),
+        SharedLoggedBook {
+            lock: RwLock::new(LoggedBook::new(book, head, front)),
         }
     }
 
@@ -211,7 +211,7 @@ impl<'a, J: Naming> SharedKept<'a, J> {
     pub(crate) fn into_book(self) -> Book<'a>
         ensures { IsTrueBook result }
     {
-        let SharedKept { lock } = self;
+        let SharedLoggedBook { lock } = self;
         lock.into_inner().into_book()
     }
 }

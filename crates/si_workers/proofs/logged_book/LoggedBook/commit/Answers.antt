@@ -1,5 +1,5 @@
 use Rattle.si_workers.proofs.KnownLaws.{states-kept-by-commit}
-use Rattle.si_workers.proofs.kept.Kept.commit.Goals as goal
+use Rattle.si_workers.proofs.logged_book.LoggedBook.commit.Goals as goal
 
 pub invariant_of-self-2 : goal.invariant_of-self-2
 invariant_of-self-2 g c =
