@@ -16,7 +16,7 @@ use std::alloc::{AllocError, Global};
 
 // A set with its text, and what a repair made of it, by keeps behind looks or by new tables.
 #[derive(Clone, Copy)]
-struct Repair<'a, 'b> {
+struct ShownRepair<'a, 'b> {
     shown: Shown<'a>,
     repaired: &'b ProgramSet,
     promoting: bool,
@@ -58,7 +58,7 @@ fn keeps_of(
 // The statements that a pair with a new table gets.
 fn new_keeps(
     alloc: Global,
-    repair: Repair<'_, '_>,
+    repair: ShownRepair<'_, '_>,
     pair: Pair,
     table: &Name,
 ) -> Result<String, AllocError> {
@@ -78,7 +78,7 @@ fn new_keeps(
 // What is put where for the pair of this number in the plan.
 fn put_text(
     alloc: Global,
-    repair: Repair<'_, '_>,
+    repair: ShownRepair<'_, '_>,
     number: usize,
     pair: Pair,
 ) -> Result<String, AllocError> {
@@ -115,7 +115,7 @@ fn promoted_words(
 }
 
 // The looks for which a pair is kept apart: each one that has a `keep` now, else the first.
-fn reasons(alloc: Global, repair: Repair<'_, '_>, pair: Pair) -> Result<String, AllocError>
+fn reasons(alloc: Global, repair: ShownRepair<'_, '_>, pair: Pair) -> Result<String, AllocError>
     requires { All ChangesSingleCells repair.shown.paths.now }
 {
     let paths = repair.shown.paths;
@@ -130,7 +130,7 @@ fn reasons(alloc: Global, repair: Repair<'_, '_>, pair: Pair) -> Result<String, 
 // The pair of this number in the plan: what is put where, and why.
 fn pair_words(
     alloc: Global,
-    repair: Repair<'_, '_>,
+    repair: ShownRepair<'_, '_>,
     number: usize,
     pair: Pair,
 ) -> Result<String, AllocError>
@@ -165,7 +165,7 @@ pub fn repair_words(
     }
     let whole = ShownSet::new(alloc, text, set)?;
     let shown = whole.shown();
-    let repair = Repair {
+    let repair = ShownRepair {
         shown,
         repaired,
         promoting,

@@ -9,7 +9,7 @@ use Rattle.history_book.specs.Orders.{IsUpTo}
 use Rattle.history_book.specs.Reasons.{told_reason, IsReason}
 use Rattle.history_book.specs.TraceView.{TraceView}
 use Rattle.history_book.specs.Traces.{traces_of, trace_depends}
-use Rattle.history_book.specs.declared.orders.reason.Reason.{Reason}
+use Rattle.history_book.specs.declared.orders.reason.OrderReason.{OrderReason}
 use Rattle.history_book.proofs.DependencyLaws.{depends_within}
 use Rattle.history_book.proofs.ReasonLaws.{reason_depends, reason_numbers, told_is_reason, told_tells}
 use Rattle.history_book.proofs.TraceLaws.{depends_same}
@@ -18,7 +18,7 @@ module _ (set : DraftTree) (opening : TableState) (h : List Instance) where
   abbrev traces : List TraceView
   traces = traces_of set opening h
 
-  pub reason_of_dependency : (i j : ℕ) (r : Reason) → IsReason traces i j r → depends set opening h i j ≡ true
+  pub reason_of_dependency : (i j : ℕ) (r : OrderReason) → IsReason traces i j r → depends set opening h i j ≡ true
   reason_of_dependency i j r is =
       let numbers = reason_numbers traces i j r is in
       sym (depends_same set opening h i j numbers.0 numbers.1) ∙ reason_depends traces i j r is
@@ -27,7 +27,7 @@ module _ (set : DraftTree) (opening : TableState) (h : List Instance) where
   told_where : (i j : ℕ) → is_some (told_reason traces i j) ≡ depends set opening h i j
   told_where i j = go (told_reason traces i j) refl (depends set opening h i j) refl (told_is_reason traces i j)
     where
-      go : (o : Option Reason) → told_reason traces i j ≡ o → (b : Bool) → depends set opening h i j ≡ b → IfSome (told_reason traces i j) (IsReason traces i j) →
+      go : (o : Option OrderReason) → told_reason traces i j ≡ o → (b : Bool) → depends set opening h i j ≡ b → IfSome (told_reason traces i j) (IsReason traces i j) →
           is_some (told_reason traces i j) ≡ depends set opening h i j
       go None told false is some = ap is_some told ∙ sym is
       go None told true is some =
@@ -41,7 +41,7 @@ module _ (set : DraftTree) (opening : TableState) (h : List Instance) where
   pub traces_tell : trace_depends traces ≡ depends set opening h
   traces_tell k i j = (sym (told_tells traces i j) ∙ told_where i j) k
 
-  none_by : (o : Option Reason) (b : Bool) → is_some o ≡ b → IfNone o (b ≡ false)
+  none_by : (o : Option OrderReason) (b : Bool) → is_some o ≡ b → IfNone o (b ≡ false)
   none_by None b is = sym is
   none_by (Some r) b is = tt
 
@@ -53,7 +53,7 @@ module _ (set : DraftTree) (opening : TableState) (h : List Instance) where
   pub none_outside : (i j : ℕ) → (IsUpTo (length h) i × IsUpTo (length h) j → ⊥) → told_reason traces i j ≡ None
   none_outside i j past = go (told_reason traces i j) refl (told_is_reason traces i j)
     where
-      go : (o : Option Reason) → told_reason traces i j ≡ o → IfSome (told_reason traces i j) (IsReason traces i j) → told_reason traces i j ≡ None
+      go : (o : Option OrderReason) → told_reason traces i j ≡ o → IfSome (told_reason traces i j) (IsReason traces i j) → told_reason traces i j ≡ None
       go None told some = told
       go (Some r) told some =
           absurd (past (depends_within set opening h i j (reason_of_dependency i j r (subst (λ o. IfSome o (IsReason traces i j)) told some))))

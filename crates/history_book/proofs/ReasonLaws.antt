@@ -13,8 +13,8 @@ use Rattle.prog_tree.proofs.CellSets.{same-itself}
 use Rattle.history_book.specs.Reasons.{Changed, Looked, LookedAlone, LookedIn, PutsBefore, IsReason, changed_before, change_reason, by_change, missed_by, missed_at, by_look, told_reason}
 use Rattle.history_book.specs.TraceView.{TraceView}
 use Rattle.history_book.specs.Traces.{takes_in, looked_at, changed_at, trace_at, some_changed, changes_again, sees_change, misses_change, trace_depends}
-use Rattle.history_book.specs.declared.orders.reason.Reason.{Reason}
-use Rattle.history_book.specs.declared.orders.reason.Reason.TheVariants as reason
+use Rattle.history_book.specs.declared.orders.reason.OrderReason.{OrderReason}
+use Rattle.history_book.specs.declared.orders.reason.OrderReason.TheVariants as reason
 use Rattle.history_book.specs.declared.orders.trace.Sight.{Sight}
 use Rattle.history_book.specs.declared.orders.trace.Sight.TheVariants as sight
 use Rattle.history_book.proofs.TestLaws.{lt_told, le_told, lt_tells, le_tells, ne_tells, any_at}
@@ -51,7 +51,7 @@ some_by true x o is some = refl
 some_by false x o is some = absurd (true≢false (sym some ∙ ap is_some is))
 
 -- the reason for this cell of those that the first changed is the one for the first such cell
-pub change_told : (i j : ℕ) (a b : TraceView) (cs : List Cell) (n : ℕ) (other : Cell) (o : Option Reason) → cs ≡ a.changed →
+pub change_told : (i j : ℕ) (a b : TraceView) (cs : List Cell) (n : ℕ) (other : Cell) (o : Option OrderReason) → cs ≡ a.changed →
     find (changed_before i j b) (drop n cs) ≡ find (changed_before i j b) cs → n < length cs →
     o ≡ (if changed_before i j b (get_or cs n other) then Some (change_reason i j b (get_or cs n other)) else None) → is_some o ≡ true →
     o ≡ by_change i j a b
@@ -68,7 +68,7 @@ looked_found : (t : TraceView) (c : Cell) → is_some (missed_at t c) ≡ looked
 looked_found t c = map_some (λ s. missed_by s c) (find (λ s. takes_in s c) t.looked) ∙ any_found (λ s. takes_in s c) t.looked
 
 -- the reason for this cell of those that the second changed is the one for the first such cell
-pub look_told : (j : ℕ) (a b t : TraceView) (cs : List Cell) (n : ℕ) (other : Cell) (o : Option Reason) → a.start < j → cs ≡ b.changed →
+pub look_told : (j : ℕ) (a b t : TraceView) (cs : List Cell) (n : ℕ) (other : Cell) (o : Option OrderReason) → a.start < j → cs ≡ b.changed →
     find (looked_at a) (drop n cs) ≡ find (looked_at a) cs → n < length cs → t ≡ a → o ≡ missed_at t (get_or cs n other) → is_some o ≡ true →
     o ≡ by_look j a b
 look_told j a b t cs n other o early are left inside same is some =
@@ -80,7 +80,7 @@ look_told j a b t cs n other o early are left inside same is some =
     ∙ ap (λ late. if late then option_and_then (missed_at a) (find (looked_at a) b.changed) else None) (sym (lt_tells a.start j early))
 
 -- a cell at which the first did not look is passed over
-pub look_passed : (a t : TraceView) (cs : List Cell) (n : ℕ) (other : Cell) (o : Option Reason) →
+pub look_passed : (a t : TraceView) (cs : List Cell) (n : ℕ) (other : Cell) (o : Option OrderReason) →
     find (looked_at a) (drop n cs) ≡ find (looked_at a) cs → n < length cs → t ≡ a → o ≡ missed_at t (get_or cs n other) → is_some o ≡ false →
     find (looked_at a) (drop (n + 1) cs) ≡ find (looked_at a) cs
 look_passed a t cs n other o left inside same is none =
@@ -127,7 +127,7 @@ chained : {X Y : Type 0} (P : X → Type 0) (Q : Y → Type 0) (f : X → Option
 chained P Q f None h step = tt
 chained P Q f (Some x) h step = step x h
 
-either : (Q : Reason → Type 0) (x y : Option Reason) → IfSome x Q → IfSome y Q → IfSome (option_or x y) Q
+either : (Q : OrderReason → Type 0) (x y : Option OrderReason) → IfSome x Q → IfSome y Q → IfSome (option_or x y) Q
 either Q None y first second = second
 either Q (Some r) y first second = first
 
@@ -168,7 +168,7 @@ module _ (i j : ℕ) (a b : TraceView) where
 pub told_is_reason : (traces : List TraceView) (i j : ℕ) → IfSome (told_reason traces i j) (IsReason traces i j)
 told_is_reason traces i j = go (eqb_tells i j)
   where
-    puts : (o : Option Reason) → i ≢ j → IfSome o (PutsBefore i j (trace_at traces i) (trace_at traces j)) → IfSome o (IsReason traces i j)
+    puts : (o : Option OrderReason) → i ≢ j → IfSome o (PutsBefore i j (trace_at traces i) (trace_at traces j)) → IfSome o (IsReason traces i j)
     puts None apart h = tt
     puts (Some r) apart h = (apart, h)
 
@@ -211,7 +211,7 @@ by_changes traces i j =
 
 -- ---- one is told wherever there is one
 
-or_some : (x y : Option Reason) → is_some (option_or x y) ≡ (is_some x || is_some y)
+or_some : (x y : Option OrderReason) → is_some (option_or x y) ≡ (is_some x || is_some y)
 or_some None y = refl
 or_some (Some r) y = refl
 
@@ -293,7 +293,7 @@ module _ (traces : List TraceView) (i j : ℕ) where
   abbrev misses : Bool
   misses = misses_change traces i j
 
-  before_by : (r : Reason) → PutsBefore i j a b r → (again || (sees || misses)) ≡ true
+  before_by : (r : OrderReason) → PutsBefore i j a b r → (again || (sees || misses)) ≡ true
   before_by (reason.Both c) h =
       let found = any_at (changed_at b) a.changed c h.1 h.2 in
       or_left again (sees || misses) (and_from (nat_lt i j) (some_changed (changed_at b) a) (lt_tells i j h.0) found)
@@ -305,11 +305,11 @@ module _ (traces : List TraceView) (i j : ℕ) where
   before_by (reason.MissedIn region c) h =
       or_right again (sees || misses) (or_right sees misses (missed_tells i j a b c h.0 (looked_in a region c h.1) h.2))
 
-  pub reason_depends : (r : Reason) → IsReason traces i j r → trace_depends traces i j ≡ true
+  pub reason_depends : (r : OrderReason) → IsReason traces i j r → trace_depends traces i j ≡ true
   reason_depends r h = and_from (not (i == j)) (again || (sees || misses)) (ap not (ne_tells i j h.0)) (before_by r h.1)
 
 -- both numbers are those of commits
-pub reason_numbers : (traces : List TraceView) (i j : ℕ) (r : Reason) → IsReason traces i j r → (1 ≤ i) × (1 ≤ j)
+pub reason_numbers : (traces : List TraceView) (i j : ℕ) (r : OrderReason) → IsReason traces i j r → (1 ≤ i) × (1 ≤ j)
 reason_numbers traces zero j (reason.Both c) h = absurd (true≢false (sym h.1.1))
 reason_numbers traces zero j (reason.Saw c) h = absurd (true≢false (sym h.1.1))
 reason_numbers traces zero j (reason.Missed c) h = let inside = h.1.1.1 in absurd (omega (arith, inside))

@@ -29,7 +29,7 @@ use crate::instances::row::{Ending, HistoryRow};
 use crate::instances::ticket::{Receipt, Ticket};
 use crate::limits::MAX_ENDINGS;
 use crate::orders::order::OrderFault;
-use crate::orders::reason::{Reason, reason_between};
+use crate::orders::reason::{OrderReason, reason_between};
 use crate::orders::serial::serial_order;
 use crate::orders::trace::{Trace, are_commits};
 use prog_check::ProgramSet;
@@ -269,7 +269,7 @@ impl<'a> Book<'a> {
 
     /// Why the first of two commits has to stand before the second; none where it need not, or
     /// where a number is of no commit.
-    pub fn reason(&self, first: u64, second: u64) -> Option<Reason>
+    pub fn reason(&self, first: u64, second: u64) -> Option<OrderReason>
         ensures some { IfSome result (IsReason (traces_in self.now) first second) }
         ensures none { IfNone result (depends_in self.now first second ≡ false) }
         ensures told { result ≡ told_reason (traces_in self.now) first second }

@@ -229,7 +229,7 @@ impl Error for EndFault<'_> {}
 
 /// Why a ticket and a run do not end an instance.
 #[derive(Clone, Copy, Debug, PartialEq, Eq)]
-pub enum Refusal {
+pub enum EndRefusal {
     /// The ticket's number and start are those of no active instance.
     NoSuchTicket,
     /// The run has not ended as it has to.
@@ -238,15 +238,15 @@ pub enum Refusal {
     ForeignRun(Difference),
 }
 
-impl Refusal {
+impl EndRefusal {
     /// The refusal of a commit, with what it hands back.
     pub fn of_commit<'a>(self, unused: Unused<'a>) -> CommitFault<'a>
         ensures { result ≡ commit_fault_of self unused.entry }
     {
         match self {
-            Refusal::NoSuchTicket => CommitFault::NoSuchTicket(unused),
-            Refusal::WrongEnd => CommitFault::NotReady(unused),
-            Refusal::ForeignRun(place) => CommitFault::ForeignRun(place, unused),
+            EndRefusal::NoSuchTicket => CommitFault::NoSuchTicket(unused),
+            EndRefusal::WrongEnd => CommitFault::NotReady(unused),
+            EndRefusal::ForeignRun(place) => CommitFault::ForeignRun(place, unused),
         }
     }
 
@@ -255,9 +255,9 @@ impl Refusal {
         ensures { result ≡ end_fault_of self unused.entry }
     {
         match self {
-            Refusal::NoSuchTicket => EndFault::NoSuchTicket(unused),
-            Refusal::WrongEnd => EndFault::NotAborted(unused),
-            Refusal::ForeignRun(place) => EndFault::ForeignRun(place, unused),
+            EndRefusal::NoSuchTicket => EndFault::NoSuchTicket(unused),
+            EndRefusal::WrongEnd => EndFault::NotAborted(unused),
+            EndRefusal::ForeignRun(place) => EndFault::ForeignRun(place, unused),
         }
     }
 }

@@ -18,7 +18,7 @@ ghost use Rattle.history_book.specs.TrueBook.{IsTrueRow};
 ghost use Rattle.history_book.specs.View.{history_of};
 ghost use Rattle.history_book.specs.declared.audit.RowFault.{RowFault};
 ghost use Rattle.history_book.specs.declared.instances.row.HistoryRow.{HistoryRow};
-ghost use Rattle.history_book.specs.declared.orders.reason.Reason.{Reason};
+ghost use Rattle.history_book.specs.declared.orders.reason.OrderReason.{OrderReason};
 
 /// Where each instance sees only earlier commits, what was committed is what the instances write on
 /// the states that they see, and each commit leads to the next state.
@@ -92,7 +92,7 @@ pub fn dependencies_are_of_instances()
 /// Each reason why one commit has to stand before another is one for a dependency between them.
 pub fn reasons_are_of_dependencies()
     ensures { (set : DraftTree) → (opening : TableState) → (h : List Instance) → (i j : ℕ) →
-        (reason : Reason) → IsReason (traces_of set opening h) i j reason →
+        (reason : OrderReason) → IsReason (traces_of set opening h) i j reason →
         depends set opening h i j ≡ true }
 {}
 

@@ -25,5 +25,5 @@ pub use laws::{
 pub use limits::MAX_ENDINGS;
 pub use orders::fits::AnyFitFault;
 pub use orders::order::OrderFault;
-pub use orders::reason::Reason;
+pub use orders::reason::OrderReason;
 pub use version_store::Clash;

@@ -8,7 +8,7 @@ use std::marker::Model;
 
 /// One node, two of them, or a list.
 #[derive(Debug, Drop)]
-enum Held {
+enum NodeList {
     One([Node; 1]),
     Two([Node; 2]),
     Listed(Vec<Node>),
@@ -17,7 +17,7 @@ enum Held {
 /// Nodes in a row. Up to two of them take no memory.
 #[derive(Debug, Drop)]
 pub struct Nodes {
-    held: Held,
+    held: NodeList,
 }
 
 impl Model for Nodes {
@@ -35,7 +35,7 @@ impl Nodes {
         ensures { result ≡ only ∷ [] }
     {
         Nodes {
-            held: Held::One([only]),
+            held: NodeList::One([only]),
         }
     }
 
@@ -43,7 +43,7 @@ impl Nodes {
         ensures { result ≡ first ∷ last ∷ [] }
     {
         Nodes {
-            held: Held::Two([first, last]),
+            held: NodeList::Two([first, last]),
         }
     }
 
@@ -57,7 +57,7 @@ impl Nodes {
             _ => {}
         }
         Nodes {
-            held: Held::Listed(nodes),
+            held: NodeList::Listed(nodes),
         }
     }
 
@@ -71,7 +71,7 @@ impl Nodes {
             [only] => Ok(Nodes::of_one(*only)),
             [first, last] => Ok(Nodes::of_two(*first, *last)),
             _ => Ok(Nodes {
-                held: Held::Listed(Vec::from_slice(alloc, nodes)?),
+                held: NodeList::Listed(Vec::from_slice(alloc, nodes)?),
             }),
         }
     }
@@ -80,9 +80,9 @@ impl Nodes {
         ensures { result.now ≡ self.now }
     {
         match &self.held {
-            Held::One(nodes) => nodes.as_slice(),
-            Held::Two(nodes) => nodes.as_slice(),
-            Held::Listed(nodes) => nodes.as_slice(),
+            NodeList::One(nodes) => nodes.as_slice(),
+            NodeList::Two(nodes) => nodes.as_slice(),
+            NodeList::Listed(nodes) => nodes.as_slice(),
         }
     }
 }

@@ -8,7 +8,7 @@ use Rattle.std.proofs.lemmas.List.Sums.{sum_by-append, sum_by-cons}
 use Rattle.prog_check.specs.declared.path.Kind.{Kind}
 use Rattle.prog_check.specs.declared.path.Kind.TheVariants.{Reads, Sees, Lacks, Writes, Adds, Keeps}
 use Rattle.prog_paths.specs.declared.accesses.places.Placed.{Placed}
-use Rattle.prog_paths.specs.declared.accesses.tally.Tally.{Tally}
+use Rattle.prog_paths.specs.declared.accesses.tally.AccessTally.{AccessTally}
 use Rattle.prog_paths.specs.Questions.{asks, kinds_depend, both_write, is_in_order, question_between, asked_by, asked_among}
 use Rattle.prog_paths.specs.Tally.{IsTally, StandsBehind, is_read, is_look, is_write, is_add, of_table, count_of, capped}
 use Rattle.prog_paths.proofs.Questions.{asked_by-append, asked_among-append}
@@ -224,7 +224,7 @@ asked-behind p xs h =
 -- ---- tallies
 
 -- the numbers of a tally with an access of a kind more
-pub record Adds_to (kind : Kind) (old new : Tally) : Type 0 where
+pub record Adds_to (kind : Kind) (old new : AccessTally) : Type 0 where
   pub reads : new.reads ≡ capped (old.reads + cond (is_read kind) 1 0)
   pub looks : new.looks ≡ capped (old.looks + cond (is_look kind) 1 0)
   pub writes : new.writes ≡ capped (old.writes + cond (is_write kind) 1 0)
@@ -237,7 +237,7 @@ capped-more kinds p places old new h e =
     let here' = count-same kinds p.access.table p [] (eq-eqb p.access.table p.access.table refl) in
     omega (arith, h, e, one, here')
 
-tally-own : (places : List Placed) (p : Placed) (old new : Tally) → StandsBehind p places → IsTally p.access.table places old → Adds_to p.access.kind old new → IsTally p.access.table (places ++ p ∷ []) new
+tally-own : (places : List Placed) (p : Placed) (old new : AccessTally) → StandsBehind p places → IsTally p.access.table places old → Adds_to p.access.kind old new → IsTally p.access.table (places ++ p ∷ []) new
 tally-own places p old new behind h a =
     let total = asked-behind p places behind in
     let r = count_of is_read p.access.table places in
@@ -256,12 +256,12 @@ tally-own places p old new behind h a =
           ∙ ap capped (sym total);
     }
 
-pub tally-more : (table : ℕ) (places : List Placed) (p : Placed) (kind : Kind) (old new : Tally) → p.access.table ≡ table → p.access.kind ≡ kind → StandsBehind p places → IsTally table places old → Adds_to kind old new → IsTally table (places ++ p ∷ []) new
+pub tally-more : (table : ℕ) (places : List Placed) (p : Placed) (kind : Kind) (old new : AccessTally) → p.access.table ≡ table → p.access.kind ≡ kind → StandsBehind p places → IsTally table places old → Adds_to kind old new → IsTally table (places ++ p ∷ []) new
 tally-more table places p kind old new e f behind h a =
     subst (λ t. IsTally t (places ++ p ∷ []) new) e
     (tally-own places p old new behind (subst (λ t. IsTally t places old) (sym e) h) (subst (λ (k : Kind). Adds_to k old new) (sym f) a))
 
-pub tally-look : (table : ℕ) (places : List Placed) (p : Placed) (kind : Kind) (old new : Tally) → p.access.table ≡ table → p.access.kind ≡ kind → (kind ≡ Sees) ⊎ (kind ≡ Lacks) → StandsBehind p places → IsTally table places old → Adds_to Sees old new → IsTally table (places ++ p ∷ []) new
+pub tally-look : (table : ℕ) (places : List Placed) (p : Placed) (kind : Kind) (old new : AccessTally) → p.access.table ≡ table → p.access.kind ≡ kind → (kind ≡ Sees) ⊎ (kind ≡ Lacks) → StandsBehind p places → IsTally table places old → Adds_to Sees old new → IsTally table (places ++ p ∷ []) new
 tally-look table places p kind old new e f (inl s) behind h a = tally-more table places p Sees old new e (f ∙ s) behind h a
 tally-look table places p kind old new e f (inr s) behind h a =
     tally-more table places p Lacks old new e (f ∙ s) behind h record { reads = a.reads; looks = a.looks; writes = a.writes; adds = a.adds; questions = a.questions }
@@ -279,7 +279,7 @@ none-asked table (q ∷ xs) p differs = go (cases_eq q.access.table table) (none
         omega (arith, list, split, none', rest)
     go (inr d) rest = ap (λ (l : List Placed). length (asked_among l (p ∷ []))) (of_table-other table q xs (ne_eqb q.access.table table d)) ∙ rest
 
-pub tally-other : (table : ℕ) (places : List Placed) (p : Placed) (tally : Tally) → (p.access.table ≡ table → ⊥) → IsTally table places tally → IsTally table (places ++ p ∷ []) tally
+pub tally-other : (table : ℕ) (places : List Placed) (p : Placed) (tally : AccessTally) → (p.access.table ≡ table → ⊥) → IsTally table places tally → IsTally table (places ++ p ∷ []) tally
 tally-other table places p tally differs h = record {
   reads = h.reads ∙ ap capped (sym (unchanged is_read));
   looks = h.looks ∙ ap capped (sym (unchanged is_look));

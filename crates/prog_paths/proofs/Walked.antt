@@ -8,7 +8,7 @@ use Rattle.std.proofs.lemmas.List.Elements.{All-nil, All-cons, All-head, All-tai
 use Rattle.prog_check.specs.declared.path.Access.{Access}
 use Rattle.prog_check.specs.declared.path.Path.{Path}
 use Rattle.prog_paths.specs.declared.accesses.places.Placed.{Placed}
-use Rattle.prog_paths.specs.declared.accesses.tally.Tally.{Tally}
+use Rattle.prog_paths.specs.declared.accesses.tally.AccessTally.{AccessTally}
 use Rattle.prog_paths.specs.Places.{placed_from, all_from}
 use Rattle.prog_paths.specs.Questions.{asked_by, asked_among}
 use Rattle.prog_paths.specs.Limits.{most_questions}
@@ -244,7 +244,7 @@ next_node last next new k paths path xs lt is e keeps all h =
     (all_placed (λ table. is_before new table ≡ not (is_behind last table)) k 0 path.accesses (subst (λ (l : List Access). All (λ a. is_before new a.table ≡ not (is_behind last a.table)) l) e all)))
 
 -- the count of the tables before the next one
-pub count_more : (this : ℕ) (next : Option ℕ) (places : List Placed) (tally : Tally) (count new : ℕ) → All (λ p. is_before next p.access.table ≡ not (is_behind (Some this) p.access.table)) places → IsTally this places tally → count ≡ min (length (asked_among (before (Some this) places) places)) (most_questions + 1) → new ≡ min (count + tally.questions) (most_questions + 1) → new ≡ min (length (asked_among (before next places) places)) (most_questions + 1)
+pub count_more : (this : ℕ) (next : Option ℕ) (places : List Placed) (tally : AccessTally) (count new : ℕ) → All (λ p. is_before next p.access.table ≡ not (is_behind (Some this) p.access.table)) places → IsTally this places tally → count ≡ min (length (asked_among (before (Some this) places) places)) (most_questions + 1) → new ≡ min (count + tally.questions) (most_questions + 1) → new ≡ min (length (asked_among (before next places) places)) (most_questions + 1)
 count_more this next places tally count new all is h e =
     let parts = table_more this next places places all in
     let asked = is.questions in

@@ -9,8 +9,8 @@ use Rattle.prog_check.specs.declared.path.Term.TheVariants.{Param, Literal, Unkn
 use Rattle.prog_check.specs.declared.path.Column.{Column}
 use Rattle.prog_check.specs.declared.path.Access.{Access}
 use Rattle.prog_check.specs.Accesses.{single}
-use Rattle.prog_paths.specs.declared.accesses.facts.Held.{Held}
-use Rattle.prog_paths.specs.declared.accesses.facts.Held.TheVariants.{OneColumn, TwoColumns}
+use Rattle.prog_paths.specs.declared.accesses.facts.ColumnFacts.{ColumnFacts}
+use Rattle.prog_paths.specs.declared.accesses.facts.ColumnFacts.TheVariants.{OneColumn, TwoColumns}
 use Rattle.prog_paths.specs.Meeting.{Assignment, number_under, Meet, MeetsUnder, CanMeet, IsSingle}
 
 -- ---- facts
@@ -50,7 +50,7 @@ abbrev pub question_facts : Access → Access → List Fact
 question_facts mine theirs = column_facts mine.first theirs.first ++ second_facts mine.second theirs.second
 
 -- the facts that stand in place, two for each column
-abbrev pub facts_held : Held → List Fact
+abbrev pub facts_held : ColumnFacts → List Fact
 facts_held (OneColumn facts) = facts
 facts_held (TwoColumns facts) = facts
 

@@ -4,7 +4,7 @@ use Rattle.std.specs.List.{filter, count_by}
 use Rattle.prog_check.specs.declared.path.Kind.{Kind}
 use Rattle.prog_check.specs.declared.path.Kind.TheVariants.{Reads, Sees, Lacks, Writes, Adds}
 use Rattle.prog_paths.specs.declared.accesses.places.Placed.{Placed}
-use Rattle.prog_paths.specs.declared.accesses.tally.Tally.{Tally}
+use Rattle.prog_paths.specs.declared.accesses.tally.AccessTally.{AccessTally}
 use Rattle.prog_paths.specs.Questions.{is_in_order, asked_among}
 use Rattle.prog_paths.specs.Limits.{most_questions}
 
@@ -39,7 +39,7 @@ abbrev pub capped : ℕ → ℕ
 capped n = min n (most_questions + 1)
 
 -- a tally counts the accesses of a table and the questions that they ask
-pub record IsTally (table : ℕ) (places : List Placed) (tally : Tally) : Type 0 where
+pub record IsTally (table : ℕ) (places : List Placed) (tally : AccessTally) : Type 0 where
   pub reads : tally.reads ≡ capped (count_of is_read table places)
   pub looks : tally.looks ≡ capped (count_of is_look table places)
   pub writes : tally.writes ≡ capped (count_of is_write table places)

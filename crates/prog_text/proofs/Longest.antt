@@ -16,7 +16,7 @@ use Rattle.prog_text.specs.declared.lexing.token.Sign.TheVariants.{Table}
 use Rattle.prog_text.specs.declared.lexing.token.Token.{Token}
 use Rattle.prog_text.specs.declared.lexing.token.Token.TheVariants as t
 use Rattle.prog_text.specs.Spelling.{spelling, reserved_words, signs}
-use Rattle.prog_text.specs.Lexing.{is_letter, is_digit, is_word_byte, is_space, is_comment_byte, digits_value, word_token, Placed, Piece, Spot, before, ◌>>=◌, piece_at, word_at, number_at, sign_at, sign_among, flaw_at, tokens_from, tokens_of}
+use Rattle.prog_text.specs.Lexing.{is_letter, is_digit, is_word_byte, is_space, is_comment_byte, digits_value, word_token, Placed, Lexeme, Spot, before, ◌>>=◌, piece_at, word_at, number_at, sign_at, sign_among, flaw_at, tokens_from, tokens_of}
 use Rattle.prog_text.specs.Cut.{IsName, IsNumber, Spells, IsWithinLimit, IsLongest, EndsComment, IsPiece, space, comment, token, IsCut, end, another, HasFlaw, not_ascii, unknown, too_large, too_long, no_piece, one_more, IsFirstFlaw}
 use Rattle.prog_text.proofs.Spelled.{IsAmong, letters, digits, sign, kind, clash, passes_inside, letter_is_no_digit, digit_passes, among_passes, sign_begins, begins_sign, goes_on_sign}
 use Rattle.prog_text.proofs.WordBytes.{front_passes, letter_passes}
@@ -57,7 +57,7 @@ pub record IsFront (bytes : List ℕ) (found : Option Token) (behind : List ℕ)
   pub begun : 0 < length word
 
 -- what is found at the front of the bytes is a piece, or a flaw
-abbrev pub Goes : List ℕ → Piece → Type 0
+abbrev pub Goes : List ℕ → Lexeme → Type 0
 Goes bytes (Ok piece) = IsFront bytes piece.0 piece.1
 Goes bytes (Err spot) = HasFlaw spot.0 bytes × (spot.1 ≡ length bytes)
 
@@ -163,7 +163,7 @@ abbrev pub BeginsNoneOf : List Token → List ℕ → Type 0
 BeginsNoneOf [] bytes = Unit {0}
 BeginsNoneOf (u ∷ us) bytes = (starts_with nat_eq bytes (spelling u) ≡ false) × BeginsNoneOf us bytes
 
-abbrev Found : List Token → List ℕ → Piece → Type 0
+abbrev Found : List Token → List ℕ → Lexeme → Type 0
 Found us bytes (Ok piece) = FoundToken us bytes piece.0 piece.1
 Found us bytes (Err spot) = BeginsNoneOf us bytes × (Err spot ≡ flaw_at bytes)
 
@@ -184,7 +184,7 @@ no_longer u us first word (inr e) =
     let short : length word < suc (length (spelling u)) = ltb-true _ _ (among_passes (λ w. nat_lt (length w) (suc (length (spelling u)))) us word first e) in
     omega (arith, short)
 
-found_by : (u : Token) (us : List Token) (bytes : List ℕ) (begins : Bool) → starts_with nat_eq bytes (spelling u) ≡ begins → is_sign u ≡ true → are_no_longer u us ≡ true → (others : Piece) → Found us bytes others
+found_by : (u : Token) (us : List Token) (bytes : List ℕ) (begins : Bool) → starts_with nat_eq bytes (spelling u) ≡ begins → is_sign u ≡ true → are_no_longer u us ≡ true → (others : Lexeme) → Found us bytes others
     → Found (u ∷ us) bytes (if begins then Ok (Some u, drop (length (spelling u)) bytes) else others)
 found_by u us bytes true is signed first others h =
     ((starts_is Decides-eqb bytes (spelling u) true (sym is)).0 refl, sign_fits u signed, sign_begun u signed, λ word others there parts. no_longer u us first word there)
@@ -235,7 +235,7 @@ sign_flaw : (c : ℕ) (rest : List ℕ) (small : Bool) → nat_lt c 128 ≡ smal
 sign_flaw c rest true is other free = unknown c rest (ltb-true _ _ is) other.no_space (λ e. clash ((Decides-eqb c 35).1 e) other.no_comment) (no_token c rest other.no_word free)
 sign_flaw c rest false is other free = not_ascii c rest (ltb-false _ _ is)
 
-sign_goes_piece : (c : ℕ) (rest : List ℕ) → BeginsNoPiece c → (piece : Piece) → Found signs (c ∷ rest) piece → Goes (c ∷ rest) piece
+sign_goes_piece : (c : ℕ) (rest : List ℕ) → BeginsNoPiece c → (piece : Lexeme) → Found signs (c ∷ rest) piece → Goes (c ∷ rest) piece
 sign_goes_piece c rest other (Ok (None, behind)) h = absurd h
 sign_goes_piece c rest other (Ok (Some u, behind)) h = record {
   word = spelling u;
@@ -304,7 +304,7 @@ behind_told bytes behind found h (Ok others) cut =
 behind_told bytes behind found h (Err spot) later =
     (length h.word + later.0, one_further bytes behind found spot.0 later.0 h later.1, omega (arith, ap length h.parts, length-append h.word behind, later.2))
 
-piece_told : (n : ℕ) (bytes : List ℕ) (piece : Piece) → Goes bytes piece → ((behind : List ℕ) → length behind < length bytes → Told behind (tokens_from n behind))
+piece_told : (n : ℕ) (bytes : List ℕ) (piece : Lexeme) → Goes bytes piece → ((behind : List ℕ) → length behind < length bytes → Told behind (tokens_from n behind))
     → Told bytes (piece >>= (λ p. tokens_from n p.1 >>= (λ others. Ok (before p.0 (length bytes) others))))
 piece_told n bytes (Ok piece) h later =
     behind_told bytes piece.1 piece.0 h (tokens_from n piece.1) (later piece.1 (omega (arith, ap length h.parts, length-append h.word piece.1, h.begun)))

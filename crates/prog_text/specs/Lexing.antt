@@ -43,42 +43,42 @@ abbrev pub Spot : Type 0
 Spot = Flaw × ℕ
 
 -- what stands at the front, and the bytes behind it; no token for a space or a comment
-abbrev pub Piece : Type 0
-Piece = Result (Option Token × List ℕ) Spot
+abbrev pub Lexeme : Type 0
+Lexeme = Result (Option Token × List ℕ) Spot
 
 -- a word: a reserved one, or a name
 abbrev pub word_token : List ℕ → Token
 word_token word = unwrap_or (reserved_as word) (t.Name word)
 
 -- a word, of which the first byte is known: the longest run of letters, digits and `_`
-unfoldable pub word_at : List ℕ → Piece
+unfoldable pub word_at : List ℕ → Lexeme
 word_at bytes =
     let n = prefix_len is_word_byte (drop 1 bytes) + 1 in
     if nat_lt name_limit n then Err (NameTooLong, length bytes) else Ok (Some (word_token (take n bytes)), drop n bytes)
 
 -- a number, of which the first byte is known: the longest run of digits
-unfoldable pub number_at : List ℕ → Piece
+unfoldable pub number_at : List ℕ → Lexeme
 number_at bytes =
     let n = prefix_len is_digit (drop 1 bytes) + 1 in
     if nat_lt (digits_value (take n bytes)) (2 ^ 63) then Ok (Some (t.Number (digits_value (take n bytes))), drop n bytes) else Err (NumberOutOfRange, length bytes)
 
 -- no token begins here: the byte is not ASCII, or begins none
-abbrev pub flaw_at : List ℕ → Piece
+abbrev pub flaw_at : List ℕ → Lexeme
 flaw_at [] = Err (UnknownByte, 0)
 flaw_at (b ∷ rest) = Err ((if nat_lt b 128 then UnknownByte else NotAscii), length (b ∷ rest))
 
 -- the first sign of the list with which the bytes begin
-abbrev pub sign_among : List Token → List ℕ → Piece
+abbrev pub sign_among : List Token → List ℕ → Lexeme
 sign_among [] bytes = flaw_at bytes
 sign_among (u ∷ us) bytes =
     if starts_with nat_eq bytes (spelling u) then Ok (Some u, drop (length (spelling u)) bytes) else sign_among us bytes
 
 -- a sign: the first of the list, so the longest, with which the bytes begin
-unfoldable pub sign_at : List ℕ → Piece
+unfoldable pub sign_at : List ℕ → Lexeme
 sign_at bytes = sign_among signs bytes
 
 -- what stands at the front is told by the first byte; before the end of the text nothing stands
-unfoldable pub piece_at : List ℕ → Piece
+unfoldable pub piece_at : List ℕ → Lexeme
 piece_at [] = Err (UnknownByte, 0)
 piece_at (b ∷ rest) =
     if is_space b then Ok (None, rest)

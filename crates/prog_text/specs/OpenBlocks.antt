@@ -6,7 +6,7 @@ use Rattle.prog_tree.specs.declared.stmt.Stmt.{Stmt}
 use Rattle.prog_text.specs.declared.reading.blocks.Body.{Body}
 use Rattle.prog_text.specs.declared.reading.blocks.Open.{Open}
 use Rattle.prog_text.specs.declared.reading.blocks.Open.TheVariants.{First, Second, Turns}
-use Rattle.prog_text.specs.declared.reading.cursor.Cursor.{Cursor}
+use Rattle.prog_text.specs.declared.reading.cursor.TokenCursor.{TokenCursor}
 use Rattle.prog_text.specs.declared.reading.read_error.ReadError.{ReadError}
 use Rattle.prog_text.specs.declared.lexing.token.Token.{Token}
 use Rattle.prog_text.specs.Reading.{Reading, ◌>>=◌, made_into, Fails, behind_first, behind_second, branch_at, behind_turns, each_at, body_at}
@@ -51,34 +51,34 @@ unfoldable pub unread_behind_each : List Open → List Stmt → List Token → R
 unread_behind_each stack done ts = unread_by (each_at body_at) stack done ts
 
 -- what is still to be read of a block
-abbrev pub unread_of : Body → Cursor → Reading BlockTree
+abbrev pub unread_of : Body → TokenCursor → Reading BlockTree
 unread_of body cursor = unread body.stack.items body.done.items cursor.tokens.now
 
 -- the same behind the closing sign of a block that is open in it
-abbrev pub behind_end : Open → Body → Cursor → Reading BlockTree
+abbrev pub behind_end : Open → Body → TokenCursor → Reading BlockTree
 behind_end last body cursor = unread_behind_end (body.stack.items ++ last ∷ []) body.done.items cursor.tokens.now
 
 -- the same behind the word `if`
-abbrev pub behind_if : Body → Cursor → Reading BlockTree
+abbrev pub behind_if : Body → TokenCursor → Reading BlockTree
 behind_if body cursor = unread_behind_if body.stack.items body.done.items cursor.tokens.now
 
 -- the same behind the word `each`
-abbrev pub behind_each : Body → Cursor → Reading BlockTree
+abbrev pub behind_each : Body → TokenCursor → Reading BlockTree
 behind_each body cursor = unread_behind_each body.stack.items body.done.items cursor.tokens.now
 
 -- the same where the whole block has ended, and where it hasn't
-abbrev pub state_of : (ended : Bool) → Body → Cursor → Reading BlockTree
+abbrev pub state_of : (ended : Bool) → Body → TokenCursor → Reading BlockTree
 state_of true body cursor = Ok (stmts_tree body.done.items, cursor.tokens.now)
 state_of false body cursor = unread_of body cursor
 
 -- What is still to be read gives what the reading gives, and no more tokens are left, unless memory runs out.
-abbrev pub ReadsOn : Reading BlockTree → Result (Unit {0}) ReadError → (body : Body) → (before after : Cursor) → Type 0
+abbrev pub ReadsOn : Reading BlockTree → Result (Unit {0}) ReadError → (body : Body) → (before after : TokenCursor) → Type 0
 ReadsOn read (Ok done) body before after =
     (unread_of body after ≡ read) × (length after.tokens.now ≤ length before.tokens.now)
 ReadsOn read (Err e) body before after = Fails e read
 
 -- The same, with fewer tokens left; `true` where the whole block has ended.
-abbrev pub Steps : Reading BlockTree → Result Bool ReadError → (body : Body) → (before after : Cursor) → Type 0
+abbrev pub Steps : Reading BlockTree → Result Bool ReadError → (body : Body) → (before after : TokenCursor) → Type 0
 Steps read (Ok ended) body before after =
     (state_of ended body after ≡ read) × (length after.tokens.now < length before.tokens.now)
 Steps read (Err e) body before after = Fails e read

@@ -10,8 +10,8 @@ use Rattle.robust_cert.specs.declared.fault.JsonFault.{JsonFault}
 use Rattle.robust_cert.specs.declared.fault.JsonFault.TheVariants.{NotJson, WrongShape, WrongVersion, Memory}
 use Rattle.robust_cert.specs.declared.fault.Untaken.{Untaken}
 use Rattle.robust_cert.specs.declared.fault.Untaken as untaken
-use Rattle.robust_cert.specs.declared.text.version.Version.{Version}
-use Rattle.robust_cert.specs.declared.text.version.Version as version
+use Rattle.robust_cert.specs.declared.text.version.TextVersion.{TextVersion}
+use Rattle.robust_cert.specs.declared.text.version.TextVersion as version
 use Rattle.robust_cert.specs.Sharing.{Entry}
 
 -- the bytes are the JSON text of a value
@@ -33,7 +33,7 @@ abbrev pub version_of : Data → Option Num
 version_of d = option_and_then if_whole (option_and_then as_number (get (codes "version") d))
 
 -- the number of a version
-abbrev pub number_of : Version → Num
+abbrev pub number_of : TextVersion → Num
 number_of version.TheVariants.First = unsigned 1
 number_of version.TheVariants.Second = unsigned 2
 

@@ -7,7 +7,7 @@ use Rattle.prog_paths.specs.Listing.{IsBefore}
 use Rattle.prog_paths.specs.Marks.{mark_by}
 use Rattle.robust_cert.specs.declared.entries.Reason.{Reason}
 use Rattle.robust_cert.specs.declared.entries.Reason.TheVariants.{Apart, Cover}
-use Rattle.robust_cert.specs.declared.checking.numbers.Numbers.{Numbers}
+use Rattle.robust_cert.specs.declared.checking.numbers.AskedNumbers.{AskedNumbers}
 use Rattle.robust_cert.specs.declared.checking.telling.Telling.{Telling}
 use Rattle.robust_cert.specs.declared.checking.telling.Telling as telling
 use Rattle.prog_paths.specs.declared.accesses.mark.Mark.{Mark}
@@ -15,7 +15,7 @@ use Rattle.robust_cert.specs.Accepted.{question_of}
 use Rattle.robust_cert.specs.Sharing.{Entry}
 
 -- the question of four numbers
-abbrev pub question_with : Numbers → QuestionNumbers
+abbrev pub question_with : AskedNumbers → QuestionNumbers
 question_with n = record { x = n.x; a = n.a; y = n.y; b = n.b }
 
 -- two questions have the same numbers

@@ -6,8 +6,8 @@ use Rattle.prog_tree.specs.Tree.{draft_tree}
 use Rattle.history_book.specs.Reasons.{told_reason}
 use Rattle.history_book.specs.View.{BookView, nth_row, traces_in}
 use Rattle.history_book.specs.declared.instances.row.HistoryRow.{HistoryRow}
-use Rattle.history_book.specs.declared.orders.reason.Reason.{Reason}
-use Rattle.history_book.specs.declared.orders.reason.Reason.TheVariants.{Both, Saw, Missed, MissedIn}
+use Rattle.history_book.specs.declared.orders.reason.OrderReason.{OrderReason}
+use Rattle.history_book.specs.declared.orders.reason.OrderReason.TheVariants.{Both, Saw, Missed, MissedIn}
 use Rattle.text_places.specs.Listing.{bracketed}
 use Rattle.fault_words.specs.Naming.{cell_text, program_name, region_text}
 
@@ -26,7 +26,7 @@ call_or_none set None = []
 call_or_none set (Some row) = call_text set row
 
 -- what the first of two commits did, before the number of the second
-abbrev pub ahead_text : DraftTree → Option Reason → List ℕ
+abbrev pub ahead_text : DraftTree → Option OrderReason → List ℕ
 ahead_text set (Some (Both cell)) = codes "changed " ++ (cell_text set cell ++ codes " before")
 ahead_text set (Some (Saw cell)) = codes "changed " ++ (cell_text set cell ++ codes ", and")
 ahead_text set (Some (Missed cell)) = codes "looked at " ++ (cell_text set cell ++ codes ", and missed what")
@@ -35,7 +35,7 @@ ahead_text set (Some (MissedIn region cell)) =
 ahead_text set None = codes "stands before"
 
 -- what the second did, behind its number
-abbrev pub behind_text : DraftTree → Option Reason → List ℕ
+abbrev pub behind_text : DraftTree → Option OrderReason → List ℕ
 behind_text set (Some (Both cell)) = codes " did"
 behind_text set (Some (Saw cell)) = codes " saw it"
 behind_text set (Some (Missed cell)) = codes " changed there"
@@ -43,7 +43,7 @@ behind_text set (Some (MissedIn region cell)) = codes " changed at " ++ cell_tex
 behind_text set None = []
 
 -- the line of a commit, with its call and why it has to stand before the next
-abbrev pub commit_line : DraftTree → (call : List ℕ) → Option Reason → (number next : ℕ) → List ℕ
+abbrev pub commit_line : DraftTree → (call : List ℕ) → Option OrderReason → (number next : ℕ) → List ℕ
 commit_line set call reason number next =
     codes "commit " ++ (decimal number ++ (codes ", `" ++ (call ++ (codes "`, " ++ (ahead_text set reason
     ++ (codes " commit " ++ (decimal next ++ (behind_text set reason ++ codes "\n"))))))))

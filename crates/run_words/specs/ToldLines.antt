@@ -8,8 +8,8 @@ use Rattle.si_engine.specs.declared.event.Reply.{Reply}
 use Rattle.si_engine.specs.declared.event.Reply.TheVariants as reply
 use Rattle.run_words.specs.declared.in_input.Part.{Part}
 use Rattle.run_words.specs.declared.refusals.Refusals.{Refusals}
-use Rattle.run_words.specs.declared.refusals.Refusal.{Refusal}
-use Rattle.run_words.specs.declared.refusals.Refusal.TheVariants as refusal
+use Rattle.run_words.specs.declared.refusals.EventRefusal.{EventRefusal}
+use Rattle.run_words.specs.declared.refusals.EventRefusal.TheVariants as refusal
 use Rattle.run_words.specs.declared.refusals.Refused.{Refused}
 use Rattle.run_words.specs.EachLine.{TellsEach}
 use Rattle.run_words.specs.Limits.{most_told}
@@ -85,7 +85,7 @@ names_no_instance reply.NoSuchInstance = true
 names_no_instance other = false
 
 -- and this is what is told of it
-abbrev pub is_of_none : Refusal → Bool
+abbrev pub is_of_none : EventRefusal → Bool
 is_of_none (refusal.NoInstance instance) = true
 is_of_none other = false
 

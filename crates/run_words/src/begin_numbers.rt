@@ -10,7 +10,7 @@ const ZEROS: [i64; MAX_PARAMETERS] = [0; MAX_PARAMETERS];
 /// From which number to which instances can begin, and the line of the vacuum since which this is
 /// so; none where no vacuum gave a number up.
 #[derive(Clone, Copy, Debug, PartialEq, Eq)]
-pub struct Numbers {
+pub struct BeginNumbers {
     floor: u64,
     commits: u64,
     vacuum: Option<usize>,
@@ -56,12 +56,12 @@ impl Vacuums {
     }
 
     /// At which numbers instances can begin in a book, behind the last vacuum.
-    pub fn numbers(&mut self, part: &[u8], book: &Book<'_>) -> Numbers {
+    pub fn numbers(&mut self, part: &[u8], book: &Book<'_>) -> BeginNumbers {
         let vacuum = match self.last {
             Some(event) => Some(self.lines.line_of(part, event)),
             None => None,
         };
-        Numbers {
+        BeginNumbers {
             floor: self.floor,
             commits: book.commits(),
             vacuum,
@@ -70,8 +70,12 @@ impl Vacuums {
 }
 
 /// Why no instance begins at a number.
-pub fn number_words(alloc: Global, start: u64, numbers: Numbers) -> Result<String, AllocError> {
-    let Numbers {
+pub fn number_words(
+    alloc: Global,
+    start: u64,
+    numbers: BeginNumbers,
+) -> Result<String, AllocError> {
+    let BeginNumbers {
         floor,
         commits,
         vacuum,

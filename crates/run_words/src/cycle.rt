@@ -5,7 +5,7 @@ ghost use Rattle.run_words.specs.Cycles.{ahead_text, behind_text, call_or_none, 
 ghost use Rattle.run_words.specs.Cycles.{commit_line, cycle_text, first_or, line_text, lines_text};
 
 use fault_words::{cell_text, program_name, region_text};
-use history_book::{Book, HistoryRow, Reason};
+use history_book::{Book, HistoryRow, OrderReason};
 use prog_check::ProgramSet;
 use std::alloc::{AllocError, Global};
 use text_places::bracketed;
@@ -35,23 +35,27 @@ fn call_or_none(
 }
 
 // What the first of two commits did, before the number of the second.
-fn ahead_text(alloc: Global, set: &ProgramSet, reason: Option<Reason>) -> Result<String, AllocError>
+fn ahead_text(
+    alloc: Global,
+    set: &ProgramSet,
+    reason: Option<OrderReason>,
+) -> Result<String, AllocError>
     ensures { IfOk result (λ text. string_bytes text ≡ ahead_text (draft_tree set.now) reason) }
 {
     match reason {
-        Some(Reason::Both(cell)) => {
+        Some(OrderReason::Both(cell)) => {
             let cell = cell_text(alloc, set, cell)?;
             format!(in alloc; "changed {cell} before")
         }
-        Some(Reason::Saw(cell)) => {
+        Some(OrderReason::Saw(cell)) => {
             let cell = cell_text(alloc, set, cell)?;
             format!(in alloc; "changed {cell}, and")
         }
-        Some(Reason::Missed(cell)) => {
+        Some(OrderReason::Missed(cell)) => {
             let cell = cell_text(alloc, set, cell)?;
             format!(in alloc; "looked at {cell}, and missed what")
         }
-        Some(Reason::MissedIn(region, _)) => {
+        Some(OrderReason::MissedIn(region, _)) => {
             let region = region_text(alloc, set, region)?;
             format!(in alloc; "looked at {region}, and missed what")
         }
@@ -63,15 +67,15 @@ fn ahead_text(alloc: Global, set: &ProgramSet, reason: Option<Reason>) -> Result
 fn behind_text(
     alloc: Global,
     set: &ProgramSet,
-    reason: Option<Reason>,
+    reason: Option<OrderReason>,
 ) -> Result<String, AllocError>
     ensures { IfOk result (λ text. string_bytes text ≡ behind_text (draft_tree set.now) reason) }
 {
     match reason {
-        Some(Reason::Both(_)) => format!(in alloc; " did"),
-        Some(Reason::Saw(_)) => format!(in alloc; " saw it"),
-        Some(Reason::Missed(_)) => format!(in alloc; " changed there"),
-        Some(Reason::MissedIn(_, cell)) => {
+        Some(OrderReason::Both(_)) => format!(in alloc; " did"),
+        Some(OrderReason::Saw(_)) => format!(in alloc; " saw it"),
+        Some(OrderReason::Missed(_)) => format!(in alloc; " changed there"),
+        Some(OrderReason::MissedIn(_, cell)) => {
             let cell = cell_text(alloc, set, cell)?;
             format!(in alloc; " changed at {cell}")
         }
@@ -84,7 +88,7 @@ fn commit_line(
     alloc: Global,
     set: &ProgramSet,
     call: &str,
-    reason: Option<Reason>,
+    reason: Option<OrderReason>,
     first: usize,
     second: usize,
 ) -> Result<String, AllocError>

@@ -7,7 +7,7 @@ ghost use Rattle.run_words.specs.ToldLines.{refuses_instance, refuses_number, to
 ghost use Rattle.run_words.specs.ToldLines.{CountsOneMore, FollowsNoMore, IsOneMore, TellsNoMore};
 ghost use Rattle.run_words.specs.ToldLines.{TellsNothing, TellsOneMore};
 
-use crate::begin_numbers::{Numbers, Vacuums};
+use crate::begin_numbers::{BeginNumbers, Vacuums};
 use crate::event_lines::EventLines;
 use crate::limits::MAX_TOLD;
 use history_book::Book;
@@ -16,10 +16,10 @@ use std::alloc::{AllocError, Global};
 
 /// Why an event does nothing.
 #[derive(Clone, Copy, Debug, PartialEq, Eq)]
-pub enum Refusal {
+pub enum EventRefusal {
     WrongArguments { program: usize, given: usize },
     /// A begin at a number at which none is possible.
-    OtherNumber { start: u64, numbers: Numbers },
+    OtherNumber { start: u64, numbers: BeginNumbers },
     Full,
     NoInstance(usize),
     NotReady(usize),
@@ -30,7 +30,7 @@ pub enum Refusal {
 #[derive(Clone, Copy)]
 pub struct Refused {
     pub line: usize,
-    pub refusal: Refusal,
+    pub refusal: EventRefusal,
 }
 
 /// The lines of a script that do nothing, as the run of it tells them: some first ones, and how
@@ -52,34 +52,34 @@ pub struct Refusals {
     is_lost: bool,
 }
 
-fn refusal_of_instance(instance: usize, reply: &Reply) -> Option<Refusal>
+fn refusal_of_instance(instance: usize, reply: &Reply) -> Option<EventRefusal>
     ensures none { is_refusal reply.now ≡ false → result ≡ None }
     ensures some { refuses_instance reply.now ≡ true → result ≢ None }
     ensures other { names_no_instance reply.now ≡ false
         → IfSome result (λ refusal. is_of_none refusal ≡ false) }
 {
     match reply {
-        Reply::NoSuchInstance => Some(Refusal::NoInstance(instance)),
-        Reply::NotReady => Some(Refusal::NotReady(instance)),
-        Reply::Ended => Some(Refusal::Ended(instance)),
+        Reply::NoSuchInstance => Some(EventRefusal::NoInstance(instance)),
+        Reply::NotReady => Some(EventRefusal::NotReady(instance)),
+        Reply::Ended => Some(EventRefusal::Ended(instance)),
         _ => None,
     }
 }
 
-fn refusal_of_begin(program: usize, given: usize, reply: &Reply) -> Option<Refusal>
+fn refusal_of_begin(program: usize, given: usize, reply: &Reply) -> Option<EventRefusal>
     ensures none { is_refusal reply.now ≡ false → result ≡ None }
     ensures some { refuses_begin reply.now ≡ true → result ≢ None }
     ensures other { IfSome result (λ refusal. is_of_none refusal ≡ false) }
 {
     match reply {
-        Reply::WrongArguments => Some(Refusal::WrongArguments { program, given }),
-        Reply::Full => Some(Refusal::Full),
+        Reply::WrongArguments => Some(EventRefusal::WrongArguments { program, given }),
+        Reply::Full => Some(EventRefusal::Full),
         _ => None,
     }
 }
 
 // Why an event that was answered by this does nothing, but for a begin at another number.
-fn refusal_of(event: &Event, reply: &Reply) -> Option<Refusal>
+fn refusal_of(event: &Event, reply: &Reply) -> Option<EventRefusal>
     ensures none { is_refusal reply.now ≡ false → result ≡ None }
     ensures some { refuses event.now reply.now ≡ true → result ≢ None }
     ensures other { names_no_instance reply.now ≡ false
@@ -126,7 +126,7 @@ impl Refusals {
     }
 
     // Tells or counts a line, unless it is the last one again; the first one is told.
-    fn add(&mut self, line: usize, refusal: Refusal) -> Result<(), AllocError>
+    fn add(&mut self, line: usize, refusal: EventRefusal) -> Result<(), AllocError>
         ensures more { OnOk result (IsOneMore self.old.told.items self.new.told.items) }
         ensures some { OnOk result (0 < vec_len self.new.told) }
         ensures last { OnOk result (self.new.last ≡ line) }
@@ -141,11 +141,13 @@ impl Refusals {
         }
         self.last = line;
         match refusal {
-            Refusal::NoInstance(_) if self.is_begin_refused && !is_first => {
+            EventRefusal::NoInstance(_) if self.is_begin_refused && !is_first => {
                 self.following = self.following.saturating_add(1);
                 return Ok(());
             }
-            Refusal::WrongArguments { .. } | Refusal::OtherNumber { .. } | Refusal::Full => {
+            EventRefusal::WrongArguments { .. }
+            | EventRefusal::OtherNumber { .. }
+            | EventRefusal::Full => {
                 self.is_begin_refused = true;
             }
             _ => {}
@@ -159,7 +161,12 @@ impl Refusals {
     }
 
     // Adds the line of the event of a number.
-    fn add_event(&mut self, part: &[u8], number: usize, refusal: Refusal) -> Result<(), AllocError>
+    fn add_event(
+        &mut self,
+        part: &[u8],
+        number: usize,
+        refusal: EventRefusal,
+    ) -> Result<(), AllocError>
         ensures more { OnOk result (IsOneMore self.old.told.items self.new.told.items) }
         ensures some { OnOk result (0 < vec_len self.new.told) }
         ensures counted { OnOk result (CountsOneMore self.old self.new) }
@@ -192,7 +199,7 @@ impl Refusals {
     {
         if let Some(start) = refused_start(event, reply) {
             let numbers = self.vacuums.numbers(part, book);
-            return self.add_event(part, number, Refusal::OtherNumber { start, numbers });
+            return self.add_event(part, number, EventRefusal::OtherNumber { start, numbers });
         }
         match refusal_of(event, reply) {
             Some(refusal) => self.add_event(part, number, refusal),

@@ -10,28 +10,28 @@ ghost use Rattle.run_words.specs.ToldLines.{TellsRefused};
 use crate::begin_numbers::number_words;
 use crate::begin_reasons::{full_words, wrong_arguments};
 use crate::in_input::{Part, point_in_part};
-use crate::refusals::{Refusal, Refusals, Refused};
+use crate::refusals::{EventRefusal, Refusals, Refused};
 use prog_check::ProgramSet;
 use std::alloc::{AllocError, Global};
 use text_places::line_front;
 
 // Why a line does nothing.
-fn sentence(alloc: Global, set: &ProgramSet, refusal: Refusal) -> Result<String, AllocError> {
+fn sentence(alloc: Global, set: &ProgramSet, refusal: EventRefusal) -> Result<String, AllocError> {
     match refusal {
-        Refusal::WrongArguments { program, given } => {
+        EventRefusal::WrongArguments { program, given } => {
             let words = wrong_arguments(alloc, set, program, given)?;
             format!(in alloc; "{words}; no instance begins")
         }
-        Refusal::OtherNumber { start, numbers } => number_words(alloc, start, numbers),
-        Refusal::Full => {
+        EventRefusal::OtherNumber { start, numbers } => number_words(alloc, start, numbers),
+        EventRefusal::Full => {
             let words = full_words(alloc)?;
             format!(in alloc; "{words}; no instance begins")
         }
-        Refusal::NoInstance(instance) => format!(in alloc; "no instance {instance} has begun"),
-        Refusal::NotReady(instance) => format!(in alloc;
+        EventRefusal::NoInstance(instance) => format!(in alloc; "no instance {instance} has begun"),
+        EventRefusal::NotReady(instance) => format!(in alloc;
             "instance {instance} has more steps to do before it can commit"
         ),
-        Refusal::Ended(instance) => format!(in alloc; "instance {instance} has ended before"),
+        EventRefusal::Ended(instance) => format!(in alloc; "instance {instance} has ended before"),
     }
 }
 

@@ -19,7 +19,7 @@ pub use input::events::{EventReader, Events, NextEvent};
 pub use input::from_lines::{FromLines, read_lines, read_part};
 pub use input::item_list::ItemList;
 pub use input::line_fault::LineFault;
-pub use input::line_words::{LineWords, Word, line_words};
+pub use input::line_words::{LineWord, LineWords, line_words};
 pub use input::lines::{cut, is_skipped, without_return};
 pub use input::list_item::ListItem;
 pub use input::list_line::ListLine;

@@ -6,11 +6,11 @@ ghost use Rattle.si_workers.specs.JobLines.{retries_of, job_of};
 
 use crate::job::Job;
 use prog_check::ProgramSet;
-use si_engine::{LineFault, ListItem, Word, number, numbers, program_number};
+use si_engine::{LineFault, LineWord, ListItem, number, numbers, program_number};
 use std::alloc::Global;
 
 // How often a job may be begun anew.
-fn retries(word: &Word<'_>) -> Option<u32>
+fn retries(word: &LineWord<'_>) -> Option<u32>
     ensures { result ≡ retries_of word.now }
 {
     u32::try_from(number(word.as_bytes())?).ok()
@@ -18,7 +18,12 @@ fn retries(word: &Word<'_>) -> Option<u32>
 
 // The job that the words behind `job` are, or the line's fault.
 #[tactic(auto, unfolding(crate::specs::JobLines::job_of))]
-fn job(alloc: Global, set: &ProgramSet, line: usize, words: &[Word<'_>]) -> Result<Job, LineFault>
+fn job(
+    alloc: Global,
+    set: &ProgramSet,
+    line: usize,
+    words: &[LineWord<'_>],
+) -> Result<Job, LineFault>
     ensures { Reads (λ job. job) result (job_of (draft_tree set.now) line words.now) }
 {
     let [times, name, args @ ..] = words else {
@@ -50,7 +55,7 @@ impl ListItem for Job {
         alloc: Global,
         set: &ProgramSet,
         line: usize,
-        words: &[Word<'_>],
+        words: &[LineWord<'_>],
     ) -> Result<Self, LineFault> {
         job(alloc, set, line, words)
     }

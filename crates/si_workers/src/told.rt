@@ -2,7 +2,7 @@
 
 ghost use Rattle.std.specs.Prelude.{◌≡◌, ◌<◌, ◌∷◌, [], length, IfOk, Some, None, map, flat_map};
 ghost use Rattle.std.specs.Prelude.{option_copied};
-ghost use Rattle.si_workers.specs.declared.told.Told.TheVariants.{Nothing};
+ghost use Rattle.si_workers.specs.declared.told.ToldOfJob.TheVariants.{Nothing};
 ghost use Rattle.si_workers.specs.Gathered.{outcome_in, with_one, AreToldMore};
 ghost use Rattle.si_workers.specs.Told.{AreTold};
 
@@ -13,7 +13,7 @@ use std::marker::Model;
 
 /// What was told of one job.
 #[derive(Debug, Drop)]
-pub enum Told {
+pub enum ToldOfJob {
     /// Nothing.
     Nothing,
     /// One outcome.
@@ -22,14 +22,14 @@ pub enum Told {
     Often,
 }
 
-impl Told {
+impl ToldOfJob {
     // One more outcome was told.
     fn add(&mut self, outcome: JobOutcome)
         ensures { self.new ≡ with_one self.old outcome }
     {
         let told = match self {
-            Told::Nothing => Told::Once(outcome),
-            Told::Once(_) | Told::Often => Told::Often,
+            ToldOfJob::Nothing => ToldOfJob::Once(outcome),
+            ToldOfJob::Once(_) | ToldOfJob::Often => ToldOfJob::Often,
         };
         *self = told;
     }
@@ -39,7 +39,7 @@ impl Told {
 #[derive(Debug, Drop)]
 pub struct Tiding<'j> {
     pub job: &'j Job,
-    told: Told,
+    told: ToldOfJob,
 }
 
 impl<'j> Model for Tiding<'j> {
@@ -55,7 +55,7 @@ impl<'j> Model for Tiding<'j> {
 
 impl<'j> Tiding<'j> {
     // A job with what was told of it.
-    fn of(job: &'j Job, told: Told) -> Self
+    fn of(job: &'j Job, told: ToldOfJob) -> Self
         ensures { result ≡ (job.now, outcome_in told) }
     {
         Tiding { job, told }
@@ -66,8 +66,8 @@ impl<'j> Tiding<'j> {
         ensures { option_copied result ≡ self.now.1 }
     {
         match &self.told {
-            Told::Once(outcome) => Some(outcome),
-            Told::Nothing | Told::Often => None,
+            ToldOfJob::Once(outcome) => Some(outcome),
+            ToldOfJob::Nothing | ToldOfJob::Often => None,
         }
     }
 
@@ -77,25 +77,25 @@ impl<'j> Tiding<'j> {
     {
         let Tiding { job: _, told } = self;
         match told {
-            Told::Once(outcome) => Some(outcome),
-            Told::Nothing | Told::Often => None,
+            ToldOfJob::Once(outcome) => Some(outcome),
+            ToldOfJob::Nothing | ToldOfJob::Often => None,
         }
     }
 }
 
 // Nothing was told of jobs yet.
-fn nothing_told(alloc: Global, jobs: &[Job]) -> Result<Vec<Told>, AllocError>
+fn nothing_told(alloc: Global, jobs: &[Job]) -> Result<Vec<ToldOfJob>, AllocError>
     ensures { IfOk result (λ told. told.items ≡ map (λ job. Nothing) jobs.now) }
 {
     let mut told = Vec::with_capacity(alloc, jobs.len())?;
     for _job in jobs {
-        told.push(Told::Nothing)?;
+        told.push(ToldOfJob::Nothing)?;
     }
     Ok(told)
 }
 
 // One more report came in. One of no job goes.
-fn tell(told: &mut Vec<Told>, job: usize, outcome: JobOutcome)
+fn tell(told: &mut Vec<ToldOfJob>, job: usize, outcome: JobOutcome)
     ensures { AreToldMore told.old.items told.new.items ((job, outcome) ∷ []) }
 {
     if job < told.len() {
@@ -104,7 +104,7 @@ fn tell(told: &mut Vec<Told>, job: usize, outcome: JobOutcome)
 }
 
 // The reports of a worker came in.
-fn tell_all(told: &mut Vec<Told>, reports: Vec<(usize, JobOutcome)>)
+fn tell_all(told: &mut Vec<ToldOfJob>, reports: Vec<(usize, JobOutcome)>)
     ensures { AreToldMore told.old.items told.new.items reports.items }
 {
     for report in reports {
@@ -114,7 +114,7 @@ fn tell_all(told: &mut Vec<Told>, reports: Vec<(usize, JobOutcome)>)
 }
 
 // All that workers tell came in.
-fn all_told(alloc: Global, jobs: &[Job], done: Vec<Done>) -> Result<Vec<Told>, AllocError>
+fn all_told(alloc: Global, jobs: &[Job], done: Vec<Done>) -> Result<Vec<ToldOfJob>, AllocError>
     ensures { IfOk result (λ told. AreToldMore (map (λ job. Nothing) jobs.now) told.items
         (flat_map (λ one. one.reports.items) done.items)) }
 {
@@ -127,7 +127,7 @@ fn all_told(alloc: Global, jobs: &[Job], done: Vec<Done>) -> Result<Vec<Told>, A
 }
 
 // Each job with what was told of it.
-fn tidings(alloc: Global, jobs: &[Job], told: Vec<Told>) -> Result<Vec<Tiding<'_>>, AllocError>
+fn tidings(alloc: Global, jobs: &[Job], told: Vec<ToldOfJob>) -> Result<Vec<Tiding<'_>>, AllocError>
     requires { length jobs.now ≡ length told.items }
     ensures jobs { IfOk result (λ tidings. map (λ t. t.0) tidings.items ≡ jobs.now) }
     ensures told { IfOk result (λ tidings.

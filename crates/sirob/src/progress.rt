@@ -19,7 +19,7 @@ impl Watched for LibcRuntime {
 
 /// Tells on a terminal, once a second at most, how many jobs have ended. It holds nobody.
 #[derive(Drop)]
-pub struct Progress<'a, R> {
+pub struct JobProgress<'a, R> {
     rt: &'a R,
     is_watched: bool,
     jobs: usize,
@@ -35,10 +35,10 @@ fn second_now(rt: &impl Clock) -> u64 {
     }
 }
 
-impl<'a, R: Clock + Eprint + Watched> Progress<'a, R> {
+impl<'a, R: Clock + Eprint + Watched> JobProgress<'a, R> {
     /// Of so many jobs, none has ended yet.
     pub fn new(rt: &'a R, jobs: usize) -> Self {
-        Progress {
+        JobProgress {
             rt,
             is_watched: rt.is_watched(),
             jobs,
@@ -65,7 +65,7 @@ impl<'a, R: Clock + Eprint + Watched> Progress<'a, R> {
     }
 }
 
-impl<R: Clock + Eprint + Watched> Gate for Progress<'_, R> {
+impl<R: Clock + Eprint + Watched> Gate for JobProgress<'_, R> {
     fn at(&self, _job: usize, moment: Moment) {
         if !self.is_watched || moment != Moment::Finished {
             return;

@@ -16,15 +16,15 @@ use Rattle.prog_tree.specs.Table.{cell_cmp, Cells, cells_of, at_cell, is_same_ce
 use Rattle.prog_tree.proofs.CellSets.{same-itself}
 use Rattle.prog_tree.proofs.TableLemmas.{cell_total}
 use Rattle.prog_tree.proofs.TableStates.{same_cell, cell_is}
-use Rattle.version_store.specs.declared.block.Block.{Block}
+use Rattle.version_store.specs.declared.block.RowBlock.{RowBlock}
 use Rattle.version_store.specs.declared.block.Slot.{Slot}
 use Rattle.version_store.specs.Blocks.{IsTrueBlock, IsTrueSlot, IsTrueAt, AreTrue, IsPut, IsTaken, ended, ended_slot, EndsBefore, AreEnded, IsKeyOf, with_block}
-use Rattle.version_store.specs.StandsFor.{Chain}
+use Rattle.version_store.specs.StandsFor.{VersionChain}
 use Rattle.version_store.proofs.FoundLaws.{cells-filter, at_cell-filter}
 
 -- what is true of each slot is true of all
 pub all_true :
-    (floor f : ℕ) (before after : Cells Chain) (slots : Cells Slot) → ((key : Cell) (slot : Slot) → at_cell slots key ≡ Some slot → IsTrueSlot floor before slot → IsTrueSlot f after slot) →
+    (floor f : ℕ) (before after : Cells VersionChain) (slots : Cells Slot) → ((key : Cell) (slot : Slot) → at_cell slots key ≡ Some slot → IsTrueSlot floor before slot → IsTrueSlot f after slot) →
     AreTrue floor before slots → AreTrue f after slots
 all_true floor f before after slots each holds key = go (at_cell slots key) refl (holds key)
   where
@@ -33,7 +33,7 @@ all_true floor f before after slots each holds key = go (at_cell slots key) refl
     go (Some slot) e h = each key slot e h
 
 -- a slot that takes a block keeps its region
-pub with_block_region : (block : Block) (slot : Slot) → (with_block block slot).region ≡ slot.region
+pub with_block_region : (block : RowBlock) (slot : Slot) → (with_block block slot).region ≡ slot.region
 with_block_region block slot = go (leb slot.newest.since block.since)
   where
     go : (b : Bool) → (if b then record slot { newest = block; older = Some slot.newest } else record slot { older = Some block }).region ≡ slot.region
@@ -43,36 +43,36 @@ with_block_region block slot = go (leb slot.newest.since block.since)
 -- ---- blocks that end
 
 -- what is true from 0 on is true from any floor on
-pub true_from : (floor : ℕ) (chains : Cells Chain) (region : Region) (block : Block) → IsTrueBlock 0 chains region block → IsTrueBlock floor chains region block
+pub true_from : (floor : ℕ) (chains : Cells VersionChain) (region : Region) (block : RowBlock) → IsTrueBlock 0 chains region block → IsTrueBlock floor chains region block
 true_from floor chains region block h n above since below = h n (omega arith) since below
 
-ended_true : (number floor : ℕ) (chains : Cells Chain) (region : Region) (block : Block) → IsTrueBlock floor chains region block → IsTrueBlock floor chains region (ended number block)
+ended_true : (number floor : ℕ) (chains : Cells VersionChain) (region : Region) (block : RowBlock) → IsTrueBlock floor chains region block → IsTrueBlock floor chains region (ended number block)
 ended_true number floor chains region block h n above since below = h n above since (omega (arith, below))
 
-pub ended_slot_true : (number floor : ℕ) (chains : Cells Chain) (slot : Slot) → IsTrueSlot floor chains slot → IsTrueSlot floor chains (ended_slot number slot)
+pub ended_slot_true : (number floor : ℕ) (chains : Cells VersionChain) (slot : Slot) → IsTrueSlot floor chains slot → IsTrueSlot floor chains (ended_slot number slot)
 ended_slot_true number floor chains slot h = (ended_true number floor chains slot.region slot.newest h.0, go slot.older h.1)
   where
-    go : (o : Option Block) → IfSome o (IsTrueBlock floor chains slot.region) → IfSome (option_map (ended number) o) (IsTrueBlock floor chains slot.region)
+    go : (o : Option RowBlock) → IfSome o (IsTrueBlock floor chains slot.region) → IfSome (option_map (ended number) o) (IsTrueBlock floor chains slot.region)
     go None h = tt
     go (Some block) h = ended_true number floor chains slot.region block h
 
 pub ended_ends : (number : ℕ) (slot : Slot) → EndsBefore number (ended_slot number slot)
 ended_ends number slot = (omega arith, go slot.older)
   where
-    go : (o : Option Block) → IfSome (option_map (ended number) o) (λ (block : Block). block.till ≤ number)
+    go : (o : Option RowBlock) → IfSome (option_map (ended number) o) (λ (block : RowBlock). block.till ≤ number)
     go None = tt
     go (Some block) = omega arith
 
 pub ended_still : (n number : ℕ) (slot : Slot) → EndsBefore n slot → EndsBefore n (ended_slot number slot)
 ended_still n number slot h = (omega (arith, h.0), go slot.older h.1)
   where
-    go : (o : Option Block) → IfSome o (λ (block : Block). block.till ≤ n) → IfSome (option_map (ended number) o) (λ (block : Block). block.till ≤ n)
+    go : (o : Option RowBlock) → IfSome o (λ (block : RowBlock). block.till ≤ n) → IfSome (option_map (ended number) o) (λ (block : RowBlock). block.till ≤ n)
     go None h = tt
     go (Some block) h = omega (arith, h)
 
 -- ---- one written slot
 
-pub put_true : (floor : ℕ) (chains : Cells Chain) (m n : Cells Slot) (key : Cell) (slot : Slot) → IsTrueSlot floor chains slot → IsPut m n key slot → AreTrue floor chains m → AreTrue floor chains n
+pub put_true : (floor : ℕ) (chains : Cells VersionChain) (m n : Cells Slot) (key : Cell) (slot : Slot) → IsTrueSlot floor chains slot → IsPut m n key slot → AreTrue floor chains m → AreTrue floor chains n
 put_true floor chains m n key slot h put all c = subst (IsTrueAt floor chains) (sym (put c)) (go (is_same_cell key c))
   where
     go : (b : Bool) → IsTrueAt floor chains (cond b (Some slot) (at_cell m c))
@@ -86,7 +86,7 @@ put_at m n key slot put = put key ∙ ap (λ b. cond b (Some slot) (at_cell m ke
 pub taken_at : (m n : Cells Slot) (key : Cell) → IsTaken m n key → at_cell n key ≡ None
 taken_at m n key taken = taken key ∙ ap (λ b. cond b None (at_cell m key)) (same-itself key)
 
-pub taken_true : (floor : ℕ) (chains : Cells Chain) (m n : Cells Slot) (key : Cell) → IsTaken m n key → AreTrue floor chains m → AreTrue floor chains n
+pub taken_true : (floor : ℕ) (chains : Cells VersionChain) (m n : Cells Slot) (key : Cell) → IsTaken m n key → AreTrue floor chains m → AreTrue floor chains n
 taken_true floor chains m n key taken all c = subst (IsTrueAt floor chains) (sym (taken c)) (go (is_same_cell key c))
   where
     go : (b : Bool) → IsTrueAt floor chains (cond b None (at_cell m c))
@@ -94,7 +94,7 @@ taken_true floor chains m n key taken all c = subst (IsTrueAt floor chains) (sym
     go false = all c
 
 -- what is found is true
-pub found_true : (floor : ℕ) (chains : Cells Chain) (m : Cells Slot) (key : Cell) (slot : Slot) → Some slot ≡ at_cell m key → AreTrue floor chains m → IsTrueSlot floor chains slot
+pub found_true : (floor : ℕ) (chains : Cells VersionChain) (m : Cells Slot) (key : Cell) (slot : Slot) → Some slot ≡ at_cell m key → AreTrue floor chains m → IsTrueSlot floor chains slot
 found_true floor chains m key slot found all = subst (IsTrueAt floor chains) (sym found) (all key)
 
 -- the slot of a key in a map into which one was put

@@ -5,7 +5,7 @@ use Rattle.prog_tree.specs.declared.cell.Cell.{Cell}
 use Rattle.prog_tree.specs.declared.cell.Region.{Region}
 use Rattle.prog_tree.specs.Evaluation.{region_between}
 use Rattle.prog_tree.specs.Table.{TableState, is_in}
-use Rattle.version_store.specs.declared.block.Block.{Block}
+use Rattle.version_store.specs.declared.block.RowBlock.{RowBlock}
 use Rattle.version_store.specs.declared.block.Slot.{Slot}
 use Rattle.version_store.specs.Blocks.{ended, ended_slot, part_between, part_before, part_behind}
 
@@ -17,7 +17,7 @@ t n = record { table = 0; first = n; second = pos 0 }
 abbrev rows : TableState
 rows = (t (pos 3), pos 7) ∷ []
 
-abbrev block : Block
+abbrev block : RowBlock
 block = record { since = 2; till = 9; rows = rows }
 
 -- commit 5 changes a cell of it; commit 12 comes behind its end

@@ -4,14 +4,14 @@ use Rattle.std.specs.Prelude.{Option, Some, None, IsSome, Result, Ok, Err, OnErr
 use Rattle.prog_tree.specs.declared.cell.Cell.{Cell}
 use Rattle.prog_tree.specs.Table.{Cells, at_cell, is_same_cell}
 use Rattle.prog_tree.proofs.TableStates.{cell_is}
-use Rattle.version_store.specs.StandsFor.{Chain, no_chain}
+use Rattle.version_store.specs.StandsFor.{VersionChain, no_chain}
 use Rattle.version_store.specs.Reading.{chain_at, MakesAt}
 
 -- n is m with a chain at a cell
-abbrev pub IsWritten : Cells Chain → Cells Chain → Cell → Chain → Type 0
+abbrev pub IsWritten : Cells VersionChain → Cells VersionChain → Cell → VersionChain → Type 0
 IsWritten m n cell chain = (c : Cell) → at_cell n c ≡ cond (is_same_cell cell c) (Some chain) (at_cell m c)
 
-pub made : (m n : Cells Chain) (cell : Cell) (f : Chain → Chain) (new : Chain) → new ≡ f (chain_at m cell) → IsWritten m n cell new → MakesAt cell f m n
+pub made : (m n : Cells VersionChain) (cell : Cell) (f : VersionChain → VersionChain) (new : VersionChain) → new ≡ f (chain_at m cell) → IsWritten m n cell new → MakesAt cell f m n
 made m n cell f new is written c = ap (λ o. unwrap_or o no_chain) (written c) ∙ go (is_same_cell cell c) (λ same. cell_is cell c same)
   where
     go : (b : Bool) → (b ≡ true → cell ≡ c) → unwrap_or (cond b (Some new) (at_cell m c)) no_chain ≡ (if b then f (chain_at m c) else chain_at m c)
@@ -19,12 +19,12 @@ made m n cell f new is written c = ap (λ o. unwrap_or o no_chain) (written c) �
     go false same = refl
 
 pub made_found :
-    (m n : Cells Chain) (cell : Cell) (f : Chain → Chain) (old new : Chain) → Some old ≡ at_cell m cell → new ≡ f old →
+    (m n : Cells VersionChain) (cell : Cell) (f : VersionChain → VersionChain) (old new : VersionChain) → Some old ≡ at_cell m cell → new ≡ f old →
     (IsSome (at_cell m cell) → IsWritten m n cell new) → MakesAt cell f m n
-made_found m n cell f old new found is written = made m n cell f new (is ∙ ap (λ o. f (unwrap_or o no_chain)) found) (written (subst (λ (o : Option Chain). IsSome o) found refl))
+made_found m n cell f old new found is written = made m n cell f new (is ∙ ap (λ o. f (unwrap_or o no_chain)) found) (written (subst (λ (o : Option VersionChain). IsSome o) found refl))
 
 -- what makes nothing new changes nothing
-pub same_chains : (m n : Cells Chain) (cell : Cell) → MakesAt cell (λ chain. chain) m n → (c : Cell) → chain_at n c ≡ chain_at m c
+pub same_chains : (m n : Cells VersionChain) (cell : Cell) → MakesAt cell (λ chain. chain) m n → (c : Cell) → chain_at n c ≡ chain_at m c
 same_chains m n cell h c = h c ∙ go (is_same_cell cell c)
   where
     go : (b : Bool) → (if b then chain_at m c else chain_at m c) ≡ chain_at m c
@@ -37,7 +37,7 @@ at_error (Ok x) p = tt
 at_error (Err e) p = p
 
 -- where a cell has no chain, what makes nothing of nothing changes nothing
-pub not_made : (m : Cells Chain) (cell : Cell) (f : Chain → Chain) → None ≡ at_cell m cell → no_chain ≡ f no_chain → MakesAt cell f m m
+pub not_made : (m : Cells VersionChain) (cell : Cell) (f : VersionChain → VersionChain) → None ≡ at_cell m cell → no_chain ≡ f no_chain → MakesAt cell f m m
 not_made m cell f absent none c = go (is_same_cell cell c) (λ same. cell_is cell c same)
   where
     here : chain_at m cell ≡ f (chain_at m cell)

@@ -4,11 +4,11 @@ use Rattle.prog_tree.specs.declared.cell.Cell.{Cell}
 use Rattle.prog_tree.specs.ChangeSet.{ChangeSet, touches_cell}
 use Rattle.prog_tree.specs.Table.{Cells}
 use Rattle.version_store.specs.Reading.{chain_at, cut_from, IsBelow, IsGrown, MakesTouched}
-use Rattle.version_store.specs.StandsFor.{Chain}
+use Rattle.version_store.specs.StandsFor.{VersionChain}
 
 -- cut back at the touched cells, a chain of lesser numbers alone is as before
 pub cut_back :
-    (n : ℕ) (w : ChangeSet) (before grown last : Cells Chain) → IsGrown n w before grown → MakesTouched w (cut_from n) grown last →
+    (n : ℕ) (w : ChangeSet) (before grown last : Cells VersionChain) → IsGrown n w before grown → MakesTouched w (cut_from n) grown last →
     (c : Cell) → IsBelow n (chain_at before c) → chain_at last c ≡ chain_at before c
 cut_back n w before grown last so_far cut c below = cut c ∙ go (touches_cell w c) (so_far c).1
   where

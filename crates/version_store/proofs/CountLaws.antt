@@ -19,7 +19,7 @@ use Rattle.prog_tree.specs.Table.{cell_cmp, Cells, cells_of, at_cell, is_same_ce
 use Rattle.prog_tree.proofs.CellSets.{same-itself, none-behind, same-turned}
 use Rattle.prog_tree.proofs.TableStates.{cell_is}
 use Rattle.version_store.specs.Reading.{RisesFrom, chain_at}
-use Rattle.version_store.specs.StandsFor.{Chain, no_chain, version_by, changes_of, chain_of, trimmed, size, AreCommits}
+use Rattle.version_store.specs.StandsFor.{VersionChain, no_chain, version_by, changes_of, chain_of, trimmed, size, AreCommits}
 use Rattle.version_store.specs.Trimming.{shown, versions_kept}
 use Rattle.version_store.specs.Versions.{CellVersion, versions_from, versions_of, is_newest, is_retained, retained, versions_at}
 use Rattle.version_store.proofs.TrimLaws.{kept_above}
@@ -59,7 +59,7 @@ no_versions [] h = refl
 no_versions (y ∷ ys) h = absurd (let one : 0 ≡ suc (length (filter (is_of y.cell) ys)) = h y.cell ∙ ap (λ b. length (cond b (y ∷ filter (is_of y.cell) ys) (filter (is_of y.cell) ys))) (same-itself y.cell) in omega arith)
 
 -- chains that have as many versions of each cell as a list have as many together
-pub size_grouped : (chains : Cells Chain) (ys : List CellVersion) → IsStrictlySortedBy cell_cmp (cells_of chains) →
+pub size_grouped : (chains : Cells VersionChain) (ys : List CellVersion) → IsStrictlySortedBy cell_cmp (cells_of chains) →
     ((c : Cell) → length (chain_at chains c).versions ≡ length (filter (is_of c) ys)) → size chains ≡ length ys
 size_grouped [] ys sorted h = no_versions ys h
 size_grouped ((k, chain) ∷ rest) ys sorted h =
@@ -67,10 +67,10 @@ size_grouped ((k, chain) ∷ rest) ys sorted h =
     let both : length (filter (is_of k) ys) + length (filter (is_not_of k) ys) ≡ length ys = length-filter_both (is_of k) (is_not_of k) (λ v. refl) ys in
     let first : length chain.versions ≡ length (filter (is_of k) ys) =
     sym (ap (λ b. length (here b k).versions) (same-itself k)) ∙ h k in
-    let sum : size ((k, chain) ∷ rest) ≡ length chain.versions + size rest = sum_by-cons (λ (x : Chain). length x.versions) chain (values_of rest) in
+    let sum : size ((k, chain) ∷ rest) ≡ length chain.versions + size rest = sum_by-cons (λ (x : VersionChain). length x.versions) chain (values_of rest) in
     omega (arith, others, both, first, sum)
   where
-    here : Bool → Cell → Chain
+    here : Bool → Cell → VersionChain
     here b c = unwrap_or (cond b (Some chain) (at_cell rest c)) no_chain
 
     go : (b : Bool) (c : Cell) → is_same_cell c k ≡ b → length (chain_at rest c).versions ≡ length (filter (is_of c) (filter (is_not_of k) ys))
@@ -252,10 +252,10 @@ retained_at opening ws f c ordered each =
     ∙ kept_by_test f 0 chain chain (λ k low. refl) (chain_rises opening ws c)
 
 -- the chains of a history after a vacuum have as many versions as are retained
-pub size_retained : (chains : Cells Chain) (opening : TableState) (ws : List ChangeSet) (f : ℕ) → IsTableState opening → AreCommits ws →
+pub size_retained : (chains : Cells VersionChain) (opening : TableState) (ws : List ChangeSet) (f : ℕ) → IsTableState opening → AreCommits ws →
     IsStrictlySortedBy cell_cmp (cells_of chains) → ((c : Cell) → chain_at chains c ≡ trimmed f (chain_of opening ws c)) → size chains ≡ length (retained opening ws f)
 size_retained chains opening ws f ordered each sorted is =
-    size_grouped chains (retained opening ws f) sorted (λ c. ap (λ (x : Chain). length x.versions) (is c) ∙ sym (ap length (retained_at opening ws f c ordered each)) ∙ length-map (filter (is_of c) (retained opening ws f)) pair_of_version)
+    size_grouped chains (retained opening ws f) sorted (λ c. ap (λ (x : VersionChain). length x.versions) (is c) ∙ sym (ap length (retained_at opening ws f c ordered each)) ∙ length-map (filter (is_of c) (retained opening ws f)) pair_of_version)
 
 -- ---- at the beginning
 

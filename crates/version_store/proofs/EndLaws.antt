@@ -7,19 +7,19 @@ use Rattle.prog_tree.specs.declared.cell.Region.{Region}
 use Rattle.prog_tree.specs.ChangeSet.{ChangeSet, ChangedCells, change_at}
 use Rattle.prog_tree.specs.Table.{Cells, at_cell, is_same_cell, is_cell_among, is_in}
 use Rattle.prog_tree.proofs.TableStates.{cell_is}
-use Rattle.version_store.specs.declared.block.Block.{Block}
+use Rattle.version_store.specs.declared.block.RowBlock.{RowBlock}
 use Rattle.version_store.specs.declared.block.Slot.{Slot}
 use Rattle.version_store.specs.Blocks.{IsTrueBlock, IsTrueSlot, IsTrueAt, AreTrue, EndsBefore, AreEnded, AreEndedIn, HasCell}
 use Rattle.version_store.specs.Reading.{chain_at, value_at, with_commit, with_change_by, with_mark_by, MakesEach}
 use Rattle.version_store.specs.Regions.{seen_in, IsSeen}
-use Rattle.version_store.specs.StandsFor.{Chain}
+use Rattle.version_store.specs.StandsFor.{VersionChain}
 use Rattle.version_store.proofs.BlockLaws.{all_true}
 use Rattle.version_store.proofs.NewestLaws.{value_older}
 
 -- ---- one chain
 
 -- below its number a commit changes nothing, and nothing at all where it changes no cell
-value_stays : (n : ℕ) (w : ChangeSet) (c : Cell) (chain : Chain) (m : ℕ) → (is_some (change_at w c) ≡ true → m < n) → value_at m chain ≡ value_at m (with_commit n w c chain)
+value_stays : (n : ℕ) (w : ChangeSet) (c : Cell) (chain : VersionChain) (m : ℕ) → (is_some (change_at w c) ≡ true → m < n) → value_at m chain ≡ value_at m (with_commit n w c chain)
 value_stays n w c chain m below = go (change_at w c) (is_cell_among w.kept c) below
   where
     go : (o : Option (Option ℤ)) (kept : Bool) → (is_some o ≡ true → m < n) → value_at m chain ≡ value_at m (with_mark_by n kept (with_change_by n o chain))
@@ -31,7 +31,7 @@ value_stays n w c chain m below = go (change_at w c) (is_cell_among w.kept c) be
 -- ---- blocks
 
 block_stays :
-    (floor n : ℕ) (w : ChangeSet) (before after : Cells Chain) (region : Region) (block : Block) → MakesEach (with_commit n w) before after →
+    (floor n : ℕ) (w : ChangeSet) (before after : Cells VersionChain) (region : Region) (block : RowBlock) → MakesEach (with_commit n w) before after →
     ((c : Cell) → is_some (change_at w c) ≡ true → is_in region c ≡ true → block.till ≤ n) → IsTrueBlock floor before region block → IsTrueBlock floor after region block
 block_stays floor n w before after region block made ends holds m above since below = (seen.0, λ c. seen.1 c ∙ go c (is_in region c) refl)
   where
@@ -45,21 +45,21 @@ block_stays floor n w before after region block made ends holds m above since be
     go c false outside = refl
 
 slot_stays :
-    (floor n : ℕ) (w : ChangeSet) (before after : Cells Chain) (slot : Slot) → MakesEach (with_commit n w) before after →
+    (floor n : ℕ) (w : ChangeSet) (before after : Cells VersionChain) (slot : Slot) → MakesEach (with_commit n w) before after →
     ((c : Cell) → is_some (change_at w c) ≡ true → is_in slot.region c ≡ true → EndsBefore n slot) → IsTrueSlot floor before slot → IsTrueSlot floor after slot
 slot_stays floor n w before after slot made ends holds = (
   block_stays floor n w before after slot.region slot.newest made (λ c changed inside. (ends c changed inside).0) holds.0,
   go slot.older (λ c changed inside. (ends c changed inside).1) holds.1,
 )
   where
-    go : (o : Option Block) → ((c : Cell) → is_some (change_at w c) ≡ true → is_in slot.region c ≡ true → IfSome o (λ (block : Block). block.till ≤ n)) →
+    go : (o : Option RowBlock) → ((c : Cell) → is_some (change_at w c) ≡ true → is_in slot.region c ≡ true → IfSome o (λ (block : RowBlock). block.till ≤ n)) →
         IfSome o (IsTrueBlock floor before slot.region) → IfSome o (IsTrueBlock floor after slot.region)
     go None ends holds = tt
     go (Some block) ends holds = block_stays floor n w before after slot.region block made ends holds
 
 -- blocks that are true before a commit, and end before it where it changes a cell, are true behind it
 pub true_behind :
-    (floor n : ℕ) (w : ChangeSet) (before after : Cells Chain) (slots : Cells Slot) → MakesEach (with_commit n w) before after →
+    (floor n : ℕ) (w : ChangeSet) (before after : Cells VersionChain) (slots : Cells Slot) → MakesEach (with_commit n w) before after →
     ((c : Cell) → is_some (change_at w c) ≡ true → AreEnded n c slots) → AreTrue floor before slots → AreTrue floor after slots
 true_behind floor n w before after slots made ends =
     all_true floor floor before after slots (λ key slot at. slot_stays floor n w before after slot made (λ c changed inside. ends c changed key slot at inside))
@@ -94,5 +94,5 @@ done_ends n (Some region) slots c ended has = ended c has
 pub none_ended : (n : ℕ) (c : Cell) (slots : Cells Slot) → slots ≡ [] → AreEnded n c slots
 none_ended n c slots none key slot at inside = let never : None ≡ Some slot = sym (ap (λ (es : Cells Slot). at_cell es key) none) ∙ at in absurd (cc)
 
-pub none_true : (floor : ℕ) (chains : Cells Chain) (slots : Cells Slot) → slots ≡ [] → AreTrue floor chains slots
+pub none_true : (floor : ℕ) (chains : Cells VersionChain) (slots : Cells Slot) → slots ≡ [] → AreTrue floor chains slots
 none_true floor chains slots none key = subst (λ (es : Cells Slot). IsTrueAt floor chains (at_cell es key)) (sym none) tt

@@ -12,7 +12,7 @@ use Rattle.version_store.specs.declared.block.Slot.{Slot}
 use Rattle.version_store.specs.Blocks.{in_common, IsBySlot, IsCommon, IsOfSlot, IsPart}
 use Rattle.version_store.specs.Reading.{chain_at, value_at}
 use Rattle.version_store.specs.Regions.{seen_in, IsSeen}
-use Rattle.version_store.specs.StandsFor.{Chain}
+use Rattle.version_store.specs.StandsFor.{VersionChain}
 use Rattle.version_store.proofs.SplitLaws.{is_le}
 
 -- ---- the rows that are kept

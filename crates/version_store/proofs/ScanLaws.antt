@@ -11,19 +11,19 @@ use Rattle.prog_tree.specs.Table.{cell_cmp, Cells, cells_of, at_cell, is_same_ce
 use Rattle.prog_tree.proofs.CellSets.{none-behind}
 use Rattle.prog_tree.proofs.TableLemmas.{cell_total, at_cell-with_cell}
 use Rattle.prog_tree.proofs.TableStates.{cell_is, IsTableState-nil, IsTableState-with_row}
-use Rattle.version_store.specs.StandsFor.{Chain, no_chain}
+use Rattle.version_store.specs.StandsFor.{VersionChain, no_chain}
 use Rattle.version_store.specs.Reading.{AllRise, RisesFrom, chain_at}
 use Rattle.version_store.specs.Regions.{with_found}
 
 -- what is seen of a cell, with a chain or without one
-abbrev pub seen_at : (Cell → Chain → Option ℤ) → Cell → Option Chain → Option ℤ
+abbrev pub seen_at : (Cell → VersionChain → Option ℤ) → Cell → Option VersionChain → Option ℤ
 seen_at seen c None = None
 seen_at seen c (Some chain) = seen c chain
 
 -- with what is seen of the chains that are left, the rows are what they will be at the end
-pub record Gathers (seen : Cell → Chain → Option ℤ) (chains left : Cells Chain) (rows : TableState) : Type 0 where
+pub record Gathers (seen : Cell → VersionChain → Option ℤ) (chains left : Cells VersionChain) (rows : TableState) : Type 0 where
   pub sorted : IsStrictlySortedBy cell_cmp (cells_of left)
-  pub within : (c : Cell) (chain : Chain) → at_cell left c ≡ Some chain → at_cell chains c ≡ Some chain
+  pub within : (c : Cell) (chain : VersionChain) → at_cell left c ≡ Some chain → at_cell chains c ≡ Some chain
   pub ordered : IsTableState rows
   pub ends : (c : Cell) → option_or (seen_at seen c (at_cell left c)) (row_at rows c) ≡ seen_at seen c (at_cell chains c)
 
@@ -42,7 +42,7 @@ ordered_with_found rows k None h = h
 ordered_with_found rows k (Some v) h = IsTableState-with_row rows k v h
 
 pub gathers_more :
-    (seen : Cell → Chain → Option ℤ) (chains left rest : Cells Chain) (k : Cell) (chain : Chain) (rows next : TableState) → AllRise chains →
+    (seen : Cell → VersionChain → Option ℤ) (chains left rest : Cells VersionChain) (k : Cell) (chain : VersionChain) (rows next : TableState) → AllRise chains →
     left ≡ (k, chain) ∷ rest → Gathers seen chains left rows → (RisesFrom 0 chain.versions → next ≡ with_found rows k (seen k chain)) →
     Gathers seen chains rest next
 gathers_more seen chains left rest k chain rows next rise is so_far adds = record {
@@ -53,15 +53,15 @@ gathers_more seen chains left rest k chain rows next rise is so_far adds = recor
 }
   where
     h : Gathers seen chains ((k, chain) ∷ rest) rows
-    h = subst (λ (es : Cells Chain). Gathers seen chains es rows) is so_far
+    h = subst (λ (es : Cells VersionChain). Gathers seen chains es rows) is so_far
 
     here : at_cell chains k ≡ Some chain
     here = h.within k chain (ap (λ b. cond b (Some chain) (at_cell rest k)) (ap is_eq (tied_itself cell_total k)))
 
     added : next ≡ with_found rows k (seen k chain)
-    added = adds (subst (λ (o : Option Chain). RisesFrom 0 (unwrap_or o no_chain).versions) here (rise k))
+    added = adds (subst (λ (o : Option VersionChain). RisesFrom 0 (unwrap_or o no_chain).versions) here (rise k))
 
-    within : (b : Bool) (c : Cell) (x : Chain) → is_same_cell c k ≡ b → at_cell rest c ≡ Some x → at_cell chains c ≡ Some x
+    within : (b : Bool) (c : Cell) (x : VersionChain) → is_same_cell c k ≡ b → at_cell rest c ≡ Some x → at_cell chains c ≡ Some x
     within true c x same found = let none = none-behind k c rest h.sorted same in absurd (cc)
     within false c x apart found = h.within c x (ap (λ b. cond b (Some chain) (at_cell rest c)) apart ∙ found)
 
@@ -78,17 +78,17 @@ gathers_more seen chains left rest k chain rows next rise is so_far adds = recor
 
 -- ---- the end
 
-pub gathered : (seen : Cell → Chain → Option ℤ) → ((c : Cell) → seen c no_chain ≡ None) → (chains left : Cells Chain) (rows : TableState) → left ≡ [] →
+pub gathered : (seen : Cell → VersionChain → Option ℤ) → ((c : Cell) → seen c no_chain ≡ None) → (chains left : Cells VersionChain) (rows : TableState) → left ≡ [] →
     Gathers seen chains left rows → (c : Cell) → row_at rows c ≡ seen c (chain_at chains c)
 gathered seen unseen chains left rows none h c = ap (λ es. option_or (seen_at seen c (at_cell es c)) (row_at rows c)) (sym none) ∙ h.ends c ∙ go (at_cell chains c)
   where
-    go : (o : Option Chain) → seen_at seen c o ≡ seen c (unwrap_or o no_chain)
+    go : (o : Option VersionChain) → seen_at seen c o ≡ seen c (unwrap_or o no_chain)
     go None = sym (unseen c)
     go (Some chain) = refl
 
 -- ---- all chains
 
-pub gathers_all : (seen : Cell → Chain → Option ℤ) (chains : Cells Chain) → IsStrictlySortedBy cell_cmp (cells_of chains) → Gathers seen chains chains []
+pub gathers_all : (seen : Cell → VersionChain → Option ℤ) (chains : Cells VersionChain) → IsStrictlySortedBy cell_cmp (cells_of chains) → Gathers seen chains chains []
 gathers_all seen chains sorted = record {
   sorted = sorted;
   within = λ c chain found. found;

@@ -14,7 +14,7 @@ use Rattle.prog_tree.specs.Corners.{AreCorners}
 use Rattle.version_store.specs.declared.block.Slot.{Slot}
 use Rattle.version_store.specs.Blocks.{IsTrueSlot, IsBySlot, IsPart, part_before, part_between, part_behind}
 use Rattle.version_store.specs.Regions.{seen_in, IsSeen}
-use Rattle.version_store.specs.StandsFor.{Chain}
+use Rattle.version_store.specs.StandsFor.{VersionChain}
 use Rattle.version_store.proofs.FoundLaws.{found_rows, is_seen, found_is, no_chain_in, cells-filter, at_cell-filter, gained_nothing}
 use Rattle.version_store.proofs.SplitLaws.{split_part}
 
@@ -27,19 +27,19 @@ pub rows_of-push : (pieces : List TableState) (rows : TableState) → rows_of (p
 rows_of-push pieces rows = rows_of-append pieces (rows ∷ []) ∙ ap (λ more. rows_of pieces ++ more) (append-nil rows)
 
 -- with the rows of what is left, the pieces are the rows of the region
-abbrev pub Shares : Region → ℕ → Cells Chain → (left : Region) → List TableState → Type 0
+abbrev pub Shares : Region → ℕ → Cells VersionChain → (left : Region) → List TableState → Type 0
 Shares region n chains left pieces = rows_of pieces ++ found_rows (seen_in left n) chains ≡ found_rows (seen_in region n) chains
 
 -- the rows that are found are what is seen
-pub seen_rows : (region : Region) (n : ℕ) (chains : Cells Chain) → IsStrictlySortedBy cell_cmp (cells_of chains) → IsSeen (seen_in region n) chains (found_rows (seen_in region n) chains)
+pub seen_rows : (region : Region) (n : ℕ) (chains : Cells VersionChain) → IsStrictlySortedBy cell_cmp (cells_of chains) → IsSeen (seen_in region n) chains (found_rows (seen_in region n) chains)
 seen_rows region n chains sorted = is_seen (seen_in region n) (no_chain_in region n) chains sorted
 
-rows_are : (region : Region) (n : ℕ) (chains : Cells Chain) → IsStrictlySortedBy cell_cmp (cells_of chains) → (m : TableState) → IsSeen (seen_in region n) chains m → found_rows (seen_in region n) chains ≡ m
+rows_are : (region : Region) (n : ℕ) (chains : Cells VersionChain) → IsStrictlySortedBy cell_cmp (cells_of chains) → (m : TableState) → IsSeen (seen_in region n) chains m → found_rows (seen_in region n) chains ≡ m
 rows_are region n chains sorted = found_is (seen_in region n) (no_chain_in region n) chains sorted
 
 -- the rows before a slot are read, and its own are shared
 pub shares_more :
-    (region left part : Region) (n floor : ℕ) → floor ≤ n → (chains : Cells Chain) (slot : Slot) (rows : TableState) (old read : List TableState) → IsStrictlySortedBy cell_cmp (cells_of chains) →
+    (region left part : Region) (n floor : ℕ) → floor ≤ n → (chains : Cells VersionChain) (slot : Slot) (rows : TableState) (old read : List TableState) → IsStrictlySortedBy cell_cmp (cells_of chains) →
     IsPart part left → IsBySlot n slot part rows → IsTrueSlot floor chains slot →
     ((m : TableState) → IsSeen (seen_in (part_before left part.first_low) n) chains m → rows_of read ≡ rows_of old ++ m) →
     Shares region n chains left old → Shares region n chains (part_behind left part.first_high) (read ++ rows ∷ [])
@@ -62,7 +62,7 @@ shares_more region left part n floor above chains slot rows old read sorted is_p
 
 -- at the end what is left is read
 pub shared :
-    (region left : Region) (n : ℕ) (chains : Cells Chain) (old read : List TableState) → IsStrictlySortedBy cell_cmp (cells_of chains) →
+    (region left : Region) (n : ℕ) (chains : Cells VersionChain) (old read : List TableState) → IsStrictlySortedBy cell_cmp (cells_of chains) →
     ((m : TableState) → IsSeen (seen_in left n) chains m → rows_of read ≡ rows_of old ++ m) → Shares region n chains left old → IsSeen (seen_in region n) chains (rows_of read)
 shared region left n chains old read sorted reads so_far =
     subst (λ (m : TableState). IsSeen (seen_in region n) chains m)
@@ -103,9 +103,9 @@ left_more {A = A} all left rest k x is so_far = record {
     go false c y apart found = h.within c y (ap (λ b. cond b (Some x) (at_cell rest c)) apart ∙ found)
 
 -- rows that see the same are the same
-pub seen_same : (region : Region) (n : ℕ) (chains : Cells Chain) (m k : TableState) → IsSeen (seen_in region n) chains m → IsSeen (seen_in region n) chains k → m ≡ k
+pub seen_same : (region : Region) (n : ℕ) (chains : Cells VersionChain) (m k : TableState) → IsSeen (seen_in region n) chains m → IsSeen (seen_in region n) chains k → m ≡ k
 seen_same region n chains m k h g = same_state m k h.0 g.0 (λ c. h.1 c ∙ sym (g.1 c))
 
 -- no piece has no rows
-pub none_seen : (region : Region) (n : ℕ) (chains : Cells Chain) → AreCorners region None → (rows : TableState) → rows ≡ [] → IsSeen (seen_in region n) chains rows
+pub none_seen : (region : Region) (n : ℕ) (chains : Cells VersionChain) → AreCorners region None → (rows : TableState) → rows ≡ [] → IsSeen (seen_in region n) chains rows
 none_seen region n chains corners rows none = subst (λ (m : TableState). IsSeen (seen_in region n) chains m) (sym none) (gained_nothing region n chains corners)

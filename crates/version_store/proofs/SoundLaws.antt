@@ -8,25 +8,25 @@ use Rattle.prog_tree.specs.declared.cell.Cell.{Cell}
 use Rattle.prog_tree.specs.declared.cell.Region.{Region}
 use Rattle.prog_tree.specs.ChangeSet.{ChangeSet, change_at}
 use Rattle.prog_tree.specs.Table.{Cells, is_cell_among, is_in, row_at, TableState}
-use Rattle.version_store.specs.declared.block.Block.{Block}
+use Rattle.version_store.specs.declared.block.RowBlock.{RowBlock}
 use Rattle.version_store.specs.declared.block.Slot.{Slot}
 use Rattle.version_store.specs.Blocks.{IsTrueBlock, AreTrue}
 use Rattle.version_store.specs.Reading.{AllRise, AreBelow, IsBelow, KeepsBelow, MakesEach, MayBeTrimmed, MayTrim, RisesFrom, chain_at, value_at, version_number, with_change_by, with_commit, with_mark_by, with_opening_row}
 use Rattle.version_store.specs.Regions.{seen_in, IsSeen}
-use Rattle.version_store.specs.StandsFor.{Chain, no_chain}
+use Rattle.version_store.specs.StandsFor.{VersionChain, no_chain}
 use Rattle.version_store.proofs.BlockLaws.{all_true}
 use Rattle.version_store.proofs.TrimLaws.{filtered_rest, trimmed_below, trimmed_rises, value_trimmed}
 
 -- ---- opening rows
 
-pub opened_rise : (opening : TableState) (chains : Cells Chain) → MakesEach (λ c. with_opening_row (row_at opening c)) [] chains → AllRise chains
-opened_rise opening chains made c = subst (λ (x : Chain). RisesFrom 0 x.versions) (sym (made c)) (go (row_at opening c))
+pub opened_rise : (opening : TableState) (chains : Cells VersionChain) → MakesEach (λ c. with_opening_row (row_at opening c)) [] chains → AllRise chains
+opened_rise opening chains made c = subst (λ (x : VersionChain). RisesFrom 0 x.versions) (sym (made c)) (go (row_at opening c))
   where
     go : (o : Option ℤ) → RisesFrom 0 (with_opening_row o no_chain).versions
     go None = tt
     go (Some v) = (omega arith, tt)
 
-pub opened_below : (opening : TableState) (chains : Cells Chain) → MakesEach (λ c. with_opening_row (row_at opening c)) [] chains → AreBelow 1 chains
+pub opened_below : (opening : TableState) (chains : Cells VersionChain) → MakesEach (λ c. with_opening_row (row_at opening c)) [] chains → AreBelow 1 chains
 opened_below opening chains made c = subst (IsBelow 1) (sym (made c)) (go (row_at opening c))
   where
     go : (o : Option ℤ) → IsBelow 1 (with_opening_row o no_chain)
@@ -51,14 +51,14 @@ below_push {A = A} number n xs x is below = filter-append (λ y. nat_lt (number 
     last : filter (λ (y : A). nat_lt (number y) (n + 1)) (x ∷ []) ≡ x ∷ []
     last = ap (λ b. cond b (x ∷ []) []) (le-leb (suc (number x)) (n + 1) (omega (arith, is)))
 
-commit_below : (n : ℕ) (w : ChangeSet) (c : Cell) (chain : Chain) → IsBelow n chain → IsBelow (n + 1) (with_commit n w c chain)
+commit_below : (n : ℕ) (w : ChangeSet) (c : Cell) (chain : VersionChain) → IsBelow n chain → IsBelow (n + 1) (with_commit n w c chain)
 commit_below n w c chain below = go (change_at w c) (is_cell_among w.kept c)
   where
     versions : filter (λ (v : ℕ × Option ℤ). nat_lt v.0 n) chain.versions ≡ chain.versions
-    versions = ap (λ (x : Chain). x.versions) below
+    versions = ap (λ (x : VersionChain). x.versions) below
 
     marks : filter (λ (m : ℕ). nat_lt m n) chain.marks ≡ chain.marks
-    marks = ap (λ (x : Chain). x.marks) below
+    marks = ap (λ (x : VersionChain). x.marks) below
 
     go : (o : Option (Option ℤ)) (kept : Bool) → IsBelow (n + 1) (with_mark_by n kept (with_change_by n o chain))
     go None false i = record { versions = below_more version_number n chain.versions versions i; marks = below_more (λ m. m) n chain.marks marks i }
@@ -74,40 +74,40 @@ rises_push k n x (v ∷ vs) less below rises =
     let low : v.0 < n = (let h = first.0 in grind (arith, nat_tests)) in
     (rises.0, rises_push (v.0 + 1) n x vs (omega (arith, low)) first.1 rises.1)
 
-commit_rises : (n : ℕ) (w : ChangeSet) (c : Cell) (chain : Chain) → IsBelow n chain → RisesFrom 0 chain.versions → RisesFrom 0 (with_commit n w c chain).versions
+commit_rises : (n : ℕ) (w : ChangeSet) (c : Cell) (chain : VersionChain) → IsBelow n chain → RisesFrom 0 chain.versions → RisesFrom 0 (with_commit n w c chain).versions
 commit_rises n w c chain below rises = go (change_at w c) (is_cell_among w.kept c)
   where
     go : (o : Option (Option ℤ)) (kept : Bool) → RisesFrom 0 (with_mark_by n kept (with_change_by n o chain)).versions
     go None true = rises
     go None false = rises
-    go (Some x) true = rises_push 0 n x chain.versions (omega arith) (ap (λ (y : Chain). y.versions) below) rises
-    go (Some x) false = rises_push 0 n x chain.versions (omega arith) (ap (λ (y : Chain). y.versions) below) rises
+    go (Some x) true = rises_push 0 n x chain.versions (omega arith) (ap (λ (y : VersionChain). y.versions) below) rises
+    go (Some x) false = rises_push 0 n x chain.versions (omega arith) (ap (λ (y : VersionChain). y.versions) below) rises
 
-pub committed_rise : (n : ℕ) (w : ChangeSet) (before after : Cells Chain) → MakesEach (with_commit n w) before after → AreBelow n before → AllRise before → AllRise after
+pub committed_rise : (n : ℕ) (w : ChangeSet) (before after : Cells VersionChain) → MakesEach (with_commit n w) before after → AreBelow n before → AllRise before → AllRise after
 committed_rise n w before after made below rise c =
-    subst (λ (x : Chain). RisesFrom 0 x.versions) (sym (made c)) (commit_rises n w c (chain_at before c) (below c) (rise c))
+    subst (λ (x : VersionChain). RisesFrom 0 x.versions) (sym (made c)) (commit_rises n w c (chain_at before c) (below c) (rise c))
 
-pub committed_below : (n : ℕ) (w : ChangeSet) (before after : Cells Chain) → MakesEach (with_commit n w) before after → AreBelow n before → AreBelow (n + 1) after
+pub committed_below : (n : ℕ) (w : ChangeSet) (before after : Cells VersionChain) → MakesEach (with_commit n w) before after → AreBelow n before → AreBelow (n + 1) after
 committed_below n w before after made below c = subst (IsBelow (n + 1)) (sym (made c)) (commit_below n w c (chain_at before c) (below c))
 
 -- ---- a commit that could not be added
 
-pub kept_rise : (n : ℕ) (before after : Cells Chain) → KeepsBelow n before after → AreBelow n before → AllRise before → AllRise after
-kept_rise n before after keeps below rise c = subst (λ (x : Chain). RisesFrom 0 x.versions) (sym (keeps c (below c))) (rise c)
+pub kept_rise : (n : ℕ) (before after : Cells VersionChain) → KeepsBelow n before after → AreBelow n before → AllRise before → AllRise after
+kept_rise n before after keeps below rise c = subst (λ (x : VersionChain). RisesFrom 0 x.versions) (sym (keeps c (below c))) (rise c)
 
-pub kept_below : (n : ℕ) (before after : Cells Chain) → KeepsBelow n before after → AreBelow n before → AreBelow n after
+pub kept_below : (n : ℕ) (before after : Cells VersionChain) → KeepsBelow n before after → AreBelow n before → AreBelow n after
 kept_below n before after keeps below c = subst (IsBelow n) (sym (keeps c (below c))) (below c)
 
 -- ---- a vacuum
 
-pub trim_rises : (f : ℕ) (before after : Cells Chain) → MayTrim f before after → AllRise before → AllRise after
+pub trim_rises : (f : ℕ) (before after : Cells VersionChain) → MayTrim f before after → AllRise before → AllRise after
 trim_rises f before after trims rise c = go (trims c)
   where
     go : MayBeTrimmed f (chain_at before c) (chain_at after c) → RisesFrom 0 (chain_at after c).versions
-    go (inl is) = subst (λ (x : Chain). RisesFrom 0 x.versions) (sym is) (rise c)
-    go (inr is) = subst (λ (x : Chain). RisesFrom 0 x.versions) (sym is) (trimmed_rises f (chain_at before c) (rise c))
+    go (inl is) = subst (λ (x : VersionChain). RisesFrom 0 x.versions) (sym is) (rise c)
+    go (inr is) = subst (λ (x : VersionChain). RisesFrom 0 x.versions) (sym is) (trimmed_rises f (chain_at before c) (rise c))
 
-pub trim_below : (f n : ℕ) (before after : Cells Chain) → MayTrim f before after → AreBelow (n + 1) before → AreBelow (n + 1) after
+pub trim_below : (f n : ℕ) (before after : Cells VersionChain) → MayTrim f before after → AreBelow (n + 1) before → AreBelow (n + 1) after
 trim_below f n before after trims below c = go (trims c)
   where
     go : MayBeTrimmed f (chain_at before c) (chain_at after c) → IsBelow (n + 1) (chain_at after c)
@@ -115,7 +115,7 @@ trim_below f n before after trims below c = go (trims c)
     go (inr is) = subst (IsBelow (n + 1)) (sym is) (trimmed_below f n (chain_at before c) (below c))
 
 trim_block :
-    (floor f : ℕ) (before after : Cells Chain) (region : Region) (block : Block) → floor ≤ f → MayTrim f before after → IsTrueBlock floor before region block → IsTrueBlock f after region block
+    (floor f : ℕ) (before after : Cells VersionChain) (region : Region) (block : RowBlock) → floor ≤ f → MayTrim f before after → IsTrueBlock floor before region block → IsTrueBlock f after region block
 trim_block floor f before after region block rises trims holds n above since below = (seen.0, λ c. seen.1 c ∙ ap (λ v. if is_in region c then v else None) (go c (trims c)))
   where
     seen : IsSeen (seen_in region n) before block.rows
@@ -126,12 +126,12 @@ trim_block floor f before after region block rises trims holds n above since bel
     go c (inr is) = sym (value_trimmed f n above (chain_at before c)) ∙ ap (value_at n) (sym is)
 
 -- blocks that are true before a vacuum are true behind it from its floor on
-pub trim_true : (floor f : ℕ) (before after : Cells Chain) (slots : Cells Slot) → floor ≤ f → MayTrim f before after → AreTrue floor before slots → AreTrue f after slots
+pub trim_true : (floor f : ℕ) (before after : Cells VersionChain) (slots : Cells Slot) → floor ≤ f → MayTrim f before after → AreTrue floor before slots → AreTrue f after slots
 trim_true floor f before after slots rises trims = all_true floor f before after slots (λ key slot at holds. (block slot.region slot.newest holds.0, older slot.region slot.older holds.1))
   where
-    block : (region : Region) (b : Block) → IsTrueBlock floor before region b → IsTrueBlock f after region b
+    block : (region : Region) (b : RowBlock) → IsTrueBlock floor before region b → IsTrueBlock f after region b
     block region b = trim_block floor f before after region b rises trims
 
-    older : (region : Region) (o : Option Block) → IfSome o (IsTrueBlock floor before region) → IfSome o (IsTrueBlock f after region)
+    older : (region : Region) (o : Option RowBlock) → IfSome o (IsTrueBlock floor before region) → IfSome o (IsTrueBlock f after region)
     older region None h = tt
     older region (Some b) h = block region b h

@@ -15,7 +15,7 @@ use Rattle.prog_tree.specs.Table.{cell_cmp, Cells, cells_of, is_in, lies_between
 use Rattle.version_store.specs.Blocks.{part_between, part_before, part_behind}
 use Rattle.version_store.specs.Reading.{value_at}
 use Rattle.version_store.specs.Regions.{seen_in}
-use Rattle.version_store.specs.StandsFor.{Chain}
+use Rattle.version_store.specs.StandsFor.{VersionChain}
 use Rattle.version_store.proofs.FoundLaws.{found_rows, outside_region}
 
 -- ---- tests of numbers
@@ -111,21 +111,21 @@ none_up_to r m c d inside above less = none_of (is_in (up_to r m) d) (λ h.
 
 -- ---- the rows
 
-abbrev pub rows_of_part : Region → ℕ → Cells Chain → TableState
+abbrev pub rows_of_part : Region → ℕ → Cells VersionChain → TableState
 rows_of_part r n es = found_rows (seen_in r n) es
 
-none_left : (r : Region) (n : ℕ) (m : ℤ) (c : Cell) (es : Cells Chain) → is_in r c ≡ true → m <ℤ c.first → AllByRecursion (λ d. cell_cmp c d ≡ Less) (cells_of es) → rows_of_part (up_to r m) n es ≡ []
+none_left : (r : Region) (n : ℕ) (m : ℤ) (c : Cell) (es : Cells VersionChain) → is_in r c ≡ true → m <ℤ c.first → AllByRecursion (λ d. cell_cmp c d ≡ Less) (cells_of es) → rows_of_part (up_to r m) n es ≡ []
 none_left r n m c [] inside above behind = refl
 none_left r n m c (e ∷ es) inside above behind =
     ap (λ o. row_held e.0 o ++ rows_of_part (up_to r m) n es) (outside_region (up_to r m) n e.0 e.1 (none_up_to r m c e.0 inside above behind.0))
     ∙ none_left r n m c es inside above behind.1
 
-same_seen : (r s : Region) (n : ℕ) (c : Cell) (chain : Chain) → is_in r c ≡ is_in s c → seen_in r n c chain ≡ seen_in s n c chain
+same_seen : (r s : Region) (n : ℕ) (c : Cell) (chain : VersionChain) → is_in r c ≡ is_in s c → seen_in r n c chain ≡ seen_in s n c chain
 same_seen r s n c chain e = ap (λ b. if b then value_at n chain else None) e
 
 -- the rows of a region are those up to a number, and then those from the next one on
 pub split_at :
-    (r : Region) (n : ℕ) (m k : ℤ) (es : Cells Chain) → k ≡ m +ℤ pos 1 → m ≤ℤ r.first_high → r.first_low ≤ℤ k → IsStrictlySortedBy cell_cmp (cells_of es) →
+    (r : Region) (n : ℕ) (m k : ℤ) (es : Cells VersionChain) → k ≡ m +ℤ pos 1 → m ≤ℤ r.first_high → r.first_low ≤ℤ k → IsStrictlySortedBy cell_cmp (cells_of es) →
     rows_of_part r n es ≡ rows_of_part (up_to r m) n es ++ rows_of_part (from_on r k) n es
 split_at r n m k [] next high low sorted = refl
 split_at r n m k (e ∷ es) next high low sorted = turn (split_at r n m k es next high low (sorted_tail cell_cmp e.0 (cells_of es) sorted))
@@ -159,7 +159,7 @@ split_at r n m k (e ∷ es) next high low sorted = turn (split_at r n m k es nex
 
 -- the rows of a region are those before a part of it, those of the part, and those behind it
 pub split_part :
-    (r : Region) (n : ℕ) (low high : ℤ) (es : Cells Chain) → r.first_low ≤ℤ low → low ≤ℤ high → high ≤ℤ r.first_high → IsStrictlySortedBy cell_cmp (cells_of es) →
+    (r : Region) (n : ℕ) (low high : ℤ) (es : Cells VersionChain) → r.first_low ≤ℤ low → low ≤ℤ high → high ≤ℤ r.first_high → IsStrictlySortedBy cell_cmp (cells_of es) →
     rows_of_part r n es ≡ rows_of_part (part_before r low) n es ++ (rows_of_part (part_between r low high) n es ++ rows_of_part (part_behind r high) n es)
 split_part r n low high es first order last sorted =
     split_at r n (low -ℤ pos 1) low es (omega (arith, ints)) (omega (arith, ints, order, last)) first sorted

@@ -12,7 +12,7 @@ use Rattle.version_store.specs.Clash.{last_touch}
 use Rattle.version_store.specs.Commits.{state_at}
 use Rattle.version_store.specs.Reading.{chain_at, value_at, last_number, with_commit, with_mark_by, with_change_by, with_opening_row, IsBelow, TrimsAll}
 use Rattle.version_store.specs.Regions.{seen_in, seen_left, IsSeen}
-use Rattle.version_store.specs.StandsFor.{Chain, no_chain, StoreView, StandsFor, AreCommits, chain_of, trimmed, size, EachHolds}
+use Rattle.version_store.specs.StandsFor.{VersionChain, no_chain, StoreView, StandsFor, AreCommits, chain_of, trimmed, size, EachHolds}
 use Rattle.version_store.specs.Trimming.{shown, versions_kept, marks_kept, touches_by, touches_above, within, beyond}
 use Rattle.version_store.specs.Versions.{retained, reclaimed}
 use Rattle.version_store.proofs.CountLaws.{size_retained, retained-open, retained-push}
@@ -30,7 +30,7 @@ pub last_seen :
     (s : StoreView) (opening : TableState) (ws : List ChangeSet) → StandsFor s opening ws → (n : ℕ) → s.floor ≤ n → (c : Cell) →
     max n (last_number (chain_at s.chains c)) ≡ max n (last_touch c 1 ws)
 last_seen s opening ws h n above c =
-    ap (λ (x : Chain). max n (last_number x)) (h.chains c) ∙ last_trimmed s.floor n above (chain_of opening ws c) ∙ ap (max n) (last_number-chain_of opening ws c)
+    ap (λ (x : VersionChain). max n (last_number x)) (h.chains c) ∙ last_trimmed s.floor n above (chain_of opening ws c) ∙ ap (max n) (last_number-chain_of opening ws c)
 
 state_in_order : (m : TableState) (ws : List ChangeSet) → IsTableState m → IsTableState (fold (λ x w. changed x w.cells) m ws)
 state_in_order m [] h = h
@@ -87,7 +87,7 @@ stands-open s opening ordered chains holds pending commits floor versions = reco
     go (Some v) = refl
 
 -- a commit above the floor is added to a trimmed chain as to the whole one
-trimmed-commit : (f n : ℕ) (w : ChangeSet) (c : Cell) (chain : Chain) → f < n → trimmed f (with_commit n w c chain) ≡ with_commit n w c (trimmed f chain)
+trimmed-commit : (f n : ℕ) (w : ChangeSet) (c : Cell) (chain : VersionChain) → f < n → trimmed f (with_commit n w c chain) ≡ with_commit n w c (trimmed f chain)
 trimmed-commit f n w c chain above = go (change_at w c) (is_cell_among w.kept c)
   where
     go : (o : Option (Option ℤ)) (kept : Bool) → trimmed f (with_mark_by n kept (with_change_by n o chain)) ≡ with_mark_by n kept (with_change_by n o (trimmed f chain))
@@ -151,7 +151,7 @@ stands-kept s t opening ws h chains holds pending commits floor versions = recor
   where
     below : (c : Cell) → IsBelow (s.commits + 1) (chain_at s.chains c)
     below c =
-        subst (λ (x : Chain). IsBelow (s.commits + 1) x) (sym (h.chains c))
+        subst (λ (x : VersionChain). IsBelow (s.commits + 1) x) (sym (h.chains c))
         (subst (λ (n : ℕ). IsBelow (n + 1) (trimmed s.floor (chain_of opening ws c))) (sym h.commits) (trimmed_below s.floor (length ws) (chain_of opening ws c) (chain_below opening ws c)))
 
 -- ---- a vacuum

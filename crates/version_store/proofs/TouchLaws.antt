@@ -10,7 +10,7 @@ use Rattle.prog_tree.specs.Table.{cell_cmp, Cells, cells_of, at_cell, is_same_ce
 use Rattle.prog_tree.proofs.CellSets.{among-some, same-turned, none-behind, not-behind}
 use Rattle.version_store.specs.declared.touches.Touch.{Touch}
 use Rattle.version_store.specs.declared.touches.Touch.TheVariants.{Change}
-use Rattle.version_store.specs.StandsFor.{Chain}
+use Rattle.version_store.specs.StandsFor.{VersionChain}
 use Rattle.version_store.specs.Reading.{with_version, with_mark, with_change_by, with_mark_by, with_commit}
 use Rattle.version_store.specs.Touches.{touches_left, with_touch}
 use Rattle.version_store.specs.Trimming.{numbered, touches_by}
@@ -20,7 +20,7 @@ abbrev pub touches_of : ChangeSet → Cells Touch
 touches_of w = touches_left w.cells w.kept
 
 -- the chain of a cell with those of the touches that are of this cell
-abbrev pub with_touches : ℕ → Cells Touch → Cell → Chain → Chain
+abbrev pub with_touches : ℕ → Cells Touch → Cell → VersionChain → VersionChain
 with_touches n [] c chain = chain
 with_touches n (t ∷ ts) c chain = with_touches n ts c (if is_same_cell t.0 c then with_touch n t.1 chain else chain)
 
@@ -51,7 +51,7 @@ numbered_touches n w = ap (numbered n) (cells_left w.cells w.kept) ∙ numbered-
 -- ---- the chains
 
 changed_touches :
-    (n : ℕ) (changed : ChangedCells) (ts : Cells Touch) (c : Cell) (chain : Chain) → IsStrictlySortedBy cell_cmp (cells_of changed) →
+    (n : ℕ) (changed : ChangedCells) (ts : Cells Touch) (c : Cell) (chain : VersionChain) → IsStrictlySortedBy cell_cmp (cells_of changed) →
     with_touches n (map (λ e. (e.0, Change e.1)) changed ++ ts) c chain ≡ with_touches n ts c (with_change_by n (at_cell changed c) chain)
 changed_touches n [] ts c chain sorted = refl
 changed_touches n (e ∷ changed) ts c chain sorted =
@@ -64,7 +64,7 @@ changed_touches n (e ∷ changed) ts c chain sorted =
     go true none = ap (λ o. with_change_by n o (with_version n e.1 chain)) (none refl)
     go false none = refl
 
-kept_touches : (n : ℕ) (kept : List Cell) (c : Cell) (chain : Chain) → IsStrictlySortedBy cell_cmp kept → with_touches n (touches_left [] kept) c chain ≡ with_mark_by n (is_cell_among kept c) chain
+kept_touches : (n : ℕ) (kept : List Cell) (c : Cell) (chain : VersionChain) → IsStrictlySortedBy cell_cmp kept → with_touches n (touches_left [] kept) c chain ≡ with_mark_by n (is_cell_among kept c) chain
 kept_touches n [] c chain sorted = refl
 kept_touches n (k ∷ kept) c chain sorted =
     kept_touches n kept c (if is_same_cell k c then with_mark n chain else chain) (sorted_tail cell_cmp k kept sorted)
@@ -77,7 +77,7 @@ kept_touches n (k ∷ kept) c chain sorted =
 
 -- all touches of a commit make of a chain what the commit does
 pub commit_touches :
-    (n : ℕ) (w : ChangeSet) (c : Cell) (chain : Chain) → IsStrictlySortedBy cell_cmp (cells_of w.cells) → IsStrictlySortedBy cell_cmp w.kept →
+    (n : ℕ) (w : ChangeSet) (c : Cell) (chain : VersionChain) → IsStrictlySortedBy cell_cmp (cells_of w.cells) → IsStrictlySortedBy cell_cmp w.kept →
     with_touches n (touches_of w) c chain ≡ with_commit n w c chain
 commit_touches n w c chain changed kept =
     changed_touches n w.cells (touches_left [] w.kept) c chain changed ∙ kept_touches n w.kept c (with_change_by n (change_at w c) chain) kept

@@ -7,7 +7,7 @@ use Rattle.std.proofs.lemmas.Bool.{le-leb, lt-leb}
 use Rattle.std.proofs.lemmas.Bool.Decides.{nat_tests}
 use Rattle.std.proofs.lemmas.List.Filters.{length-filter_both}
 use Rattle.version_store.specs.Reading.{version_number, RisesFrom, value_after, value_at, version_numbers, last_number_or, last_number, IsBelow}
-use Rattle.version_store.specs.StandsFor.{Chain, trimmed}
+use Rattle.version_store.specs.StandsFor.{VersionChain, trimmed}
 use Rattle.version_store.proofs.RisingLaws.{rises_more}
 use Rattle.version_store.specs.Trimming.{shown, versions_kept, marks_kept}
 
@@ -48,7 +48,7 @@ marks_again f g less (m ∷ ms) = go (leb m f) refl (marks_again f g less ms)
         rest ∙ ap (λ b. cond b (marks_kept g ms) (m ∷ ms)) (sym (le-leb m g (omega arith)))
     go false above rest = refl
 
-pub trimmed_again : (f g : ℕ) → f ≤ g → (chain : Chain) → trimmed g (trimmed f chain) ≡ trimmed g chain
+pub trimmed_again : (f g : ℕ) → f ≤ g → (chain : VersionChain) → trimmed g (trimmed f chain) ≡ trimmed g chain
 trimmed_again f g less chain i = record { versions = kept_again f g less [] chain.versions (held_none f) i; marks = marks_again f g less chain.marks i }
 
 -- ---- what is above the floor stays
@@ -99,7 +99,7 @@ value_kept f n less held (v ∷ vs) = go (leb v.0 f) refl (value_kept f n less (
     go false above rest = value_append n None held (v ∷ vs)
 
 -- a read from the floor on sees the same
-pub value_trimmed : (f n : ℕ) → f ≤ n → (chain : Chain) → value_at n (trimmed f chain) ≡ value_at n chain
+pub value_trimmed : (f n : ℕ) → f ≤ n → (chain : VersionChain) → value_at n (trimmed f chain) ≡ value_at n chain
 value_trimmed f n less chain = value_kept f n less [] chain.versions
 
 -- ---- the last number
@@ -129,7 +129,7 @@ last_marks f n less a b p q (m ∷ ms) = go (leb m f) refl (λ low. last_marks f
     go false above rest = refl
 
 -- the last number is the same where it is above a start from the floor on
-pub last_trimmed : (f n : ℕ) → f ≤ n → (chain : Chain) → max n (last_number (trimmed f chain)) ≡ max n (last_number chain)
+pub last_trimmed : (f n : ℕ) → f ≤ n → (chain : VersionChain) → max n (last_number (trimmed f chain)) ≡ max n (last_number chain)
 last_trimmed f n less chain =
     let versions = last_kept f n less 0 (omega arith) 0 None (omega arith) chain.versions in
     let marks = last_marks f n less 0 0 (omega arith) (omega arith) chain.marks in
@@ -149,7 +149,7 @@ rises_kept f k o (v ∷ vs) h = go (leb v.0 f) (rises_kept f v.0 v.1 vs h.1)
     go true rest = rest
     go false rest = rises_shown k o (v ∷ vs) h
 
-pub trimmed_rises : (f : ℕ) (chain : Chain) → RisesFrom 0 chain.versions → RisesFrom 0 (trimmed f chain).versions
+pub trimmed_rises : (f : ℕ) (chain : VersionChain) → RisesFrom 0 chain.versions → RisesFrom 0 (trimmed f chain).versions
 trimmed_rises f chain h = begin chain.versions h
   where
     begin : (vs : List (ℕ × Option ℤ)) → RisesFrom 0 vs → RisesFrom 0 (versions_kept f [] vs)
@@ -196,10 +196,10 @@ below_marks f n (m ∷ ms) whole = go (leb m f) (below_marks f n ms (filtered_re
     go true rest = rest
     go false rest = whole
 
-pub trimmed_below : (f n : ℕ) (chain : Chain) → IsBelow (n + 1) chain → IsBelow (n + 1) (trimmed f chain)
+pub trimmed_below : (f n : ℕ) (chain : VersionChain) → IsBelow (n + 1) chain → IsBelow (n + 1) (trimmed f chain)
 trimmed_below f n chain below i = record {
-  versions = below_kept f (n + 1) 0 None chain.versions (omega arith) (ap (λ (x : Chain). x.versions) below) i;
-  marks = below_marks f (n + 1) chain.marks (ap (λ (x : Chain). x.marks) below) i;
+  versions = below_kept f (n + 1) 0 None chain.versions (omega arith) (ap (λ (x : VersionChain). x.versions) below) i;
+  marks = below_marks f (n + 1) chain.marks (ap (λ (x : VersionChain). x.marks) below) i;
 }
 
 -- ---- the loops

@@ -6,7 +6,7 @@ use Rattle.prog_tree.specs.declared.cell.Cell.{Cell}
 use Rattle.prog_tree.specs.Table.{Cells, is_same_cell, is_cell_among}
 use Rattle.prog_tree.proofs.CellSets.{same-turned}
 use Rattle.version_store.specs.Reading.{chain_at, MakesAt, MayBeTrimmed, MayTrim}
-use Rattle.version_store.specs.StandsFor.{Chain, trimmed, size, EachHolds}
+use Rattle.version_store.specs.StandsFor.{VersionChain, trimmed, size, EachHolds}
 use Rattle.version_store.specs.Trimming.{numbered, within, beyond, TakesWithin}
 use Rattle.version_store.proofs.TrimLaws.{trimmed_again}
 
@@ -42,7 +42,7 @@ adds_all number cells left before now is h = sym (append-nil now) ∙ ap (λ ks.
 -- ---- chains are trimmed
 
 -- the chains of the cells of the touches that are left will be trimmed, and the others are
-pub record Vacuums (f : ℕ) (before now : Cells Chain) (first left : List (ℕ × Cell)) (count : ℕ) : Type 0 where
+pub record Vacuums (f : ℕ) (before now : Cells VersionChain) (first left : List (ℕ × Cell)) (count : ℕ) : Type 0 where
   pub rest : beyond f left ≡ beyond f first
   pub each : MayTrim f before now
   pub done :
@@ -53,7 +53,7 @@ pub record Vacuums (f : ℕ) (before now : Cells Chain) (first left : List (ℕ 
   pub counted : count ≡ min (size before - size now) (2 ^ 64 - 1)
 
 pub vacuums_more :
-    (f : ℕ) (before now next : Cells Chain) (first left rest : List (ℕ × Cell)) (cell : Cell) (count n total : ℕ) → TakesWithin f cell left rest →
+    (f : ℕ) (before now next : Cells VersionChain) (first left rest : List (ℕ × Cell)) (cell : Cell) (count n total : ℕ) → TakesWithin f cell left rest →
     MakesAt cell (trimmed f) now next → (EachHolds now → EachHolds next) → size next + n ≡ size now → total ≡ min (count + n) (2 ^ 64 - 1) → Vacuums f before now first left count →
     Vacuums f before next first rest total
 vacuums_more f before now next first left rest cell count n total takes made holds fewer adds h = record {

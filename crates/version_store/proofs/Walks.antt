@@ -10,7 +10,7 @@ use Rattle.prog_tree.specs.Table.{cell_cmp, Cells, cells_of, is_same_cell, is_ce
 use Rattle.prog_tree.proofs.CellSets.{same-turned}
 use Rattle.version_store.specs.declared.touches.Touch.{Touch}
 use Rattle.version_store.specs.declared.touches.Touch.TheVariants.{Change, Keep}
-use Rattle.version_store.specs.StandsFor.{Chain, EachHolds}
+use Rattle.version_store.specs.StandsFor.{VersionChain, EachHolds}
 use Rattle.version_store.specs.Reading.{chain_at, with_version, with_mark, with_commit, cut_from, IsGrown, MakesAt, MakesTouched}
 use Rattle.version_store.specs.Touches.{with_touch}
 use Rattle.version_store.proofs.TouchLaws.{among_touches, commit_touches, touches_of, with_touches}
@@ -24,30 +24,30 @@ filter_push p (y ∷ xs) x drops = ap (λ ys. cond (p y) (y ∷ ys) ys) (filter_
 not_below : (n : ℕ) → nat_lt n n ≡ false
 not_below n = grind (arith, nat_tests)
 
-cut_version : (n : ℕ) (value : Option ℤ) (chain : Chain) → cut_from n (with_version n value chain) ≡ cut_from n chain
+cut_version : (n : ℕ) (value : Option ℤ) (chain : VersionChain) → cut_from n (with_version n value chain) ≡ cut_from n chain
 cut_version n value chain i = record {
   versions = filter_push (λ (v : ℕ × Option ℤ). nat_lt v.0 n) chain.versions (n, value) (not_below n) i;
   marks = filter (λ (m : ℕ). nat_lt m n) chain.marks;
 }
 
-cut_mark : (n : ℕ) (chain : Chain) → cut_from n (with_mark n chain) ≡ cut_from n chain
+cut_mark : (n : ℕ) (chain : VersionChain) → cut_from n (with_mark n chain) ≡ cut_from n chain
 cut_mark n chain i = record {
   versions = filter (λ (v : ℕ × Option ℤ). nat_lt v.0 n) chain.versions;
   marks = filter_push (λ (m : ℕ). nat_lt m n) chain.marks n (not_below n) i;
 }
 
-below_touch : (n : ℕ) (touch : Touch) (chain : Chain) → cut_from n (with_touch n touch chain) ≡ cut_from n chain
+below_touch : (n : ℕ) (touch : Touch) (chain : VersionChain) → cut_from n (with_touch n touch chain) ≡ cut_from n chain
 below_touch n (Change value) chain = cut_version n value chain
 below_touch n Keep chain = cut_mark n chain
 
 -- with the touches that are left, the chains are what they will be at the end; nothing below the number changes, and nothing at all of a cell that is not touched
-pub record AddsTouches (n : ℕ) (touches rest : Cells Touch) (before now : Cells Chain) : Type 0 where
+pub record AddsTouches (n : ℕ) (touches rest : Cells Touch) (before now : Cells VersionChain) : Type 0 where
   pub ends : (c : Cell) → with_touches n rest c (chain_at now c) ≡ with_touches n touches c (chain_at before c)
   pub below : (c : Cell) → cut_from n (chain_at now c) ≡ cut_from n (chain_at before c)
   pub apart : (c : Cell) → is_cell_among (cells_of touches) c ≡ false → (is_cell_among (cells_of rest) c ≡ false) × (chain_at now c ≡ chain_at before c)
   pub hold : EachHolds before → EachHolds now
 
-pub adds_begin : (n : ℕ) (touches left : Cells Touch) (before : Cells Chain) → left ≡ touches → AddsTouches n touches left before before
+pub adds_begin : (n : ℕ) (touches left : Cells Touch) (before : Cells VersionChain) → left ≡ touches → AddsTouches n touches left before before
 adds_begin n touches left before is = record {
   ends = λ c. ap (λ ts. with_touches n ts c (chain_at before c)) is;
   below = λ c. refl;
@@ -56,7 +56,7 @@ adds_begin n touches left before is = record {
 }
 
 pub one_more_touch :
-    (n : ℕ) (touches left rest : Cells Touch) (k : Cell) (touch : Touch) (before now next : Cells Chain) → left ≡ (k, touch) ∷ rest → AddsTouches n touches left before now →
+    (n : ℕ) (touches left rest : Cells Touch) (k : Cell) (touch : Touch) (before now next : Cells VersionChain) → left ≡ (k, touch) ∷ rest → AddsTouches n touches left before now →
     MakesAt k (with_touch n touch) now next → (EachHolds now → EachHolds next) → AddsTouches n touches rest before next
 one_more_touch n touches left rest k touch before now next is so_far made holds_next = record {
   ends = λ c. ap (with_touches n rest c) (made c) ∙ h.ends c;
@@ -77,14 +77,14 @@ one_more_touch n touches left rest k touch before now next is so_far made holds_
 
 -- all touches of a commit were added
 pub commit_added :
-    (n : ℕ) (w : ChangeSet) (left : Cells Touch) (before now : Cells Chain) → IsStrictlySortedBy cell_cmp (cells_of w.cells) → IsStrictlySortedBy cell_cmp w.kept → left ≡ [] →
+    (n : ℕ) (w : ChangeSet) (left : Cells Touch) (before now : Cells VersionChain) → IsStrictlySortedBy cell_cmp (cells_of w.cells) → IsStrictlySortedBy cell_cmp w.kept → left ≡ [] →
     AddsTouches n (touches_of w) left before now → (c : Cell) → chain_at now c ≡ with_commit n w c (chain_at before c)
 commit_added n w left before now changed kept none h c =
     ap (λ ts. with_touches n ts c (chain_at now c)) (sym none) ∙ h.ends c ∙ commit_touches n w c (chain_at before c) changed kept
 
 -- some of them were added
 pub commit_grown :
-    (n : ℕ) (w : ChangeSet) (rest : Cells Touch) (before now next : Cells Chain) → AddsTouches n (touches_of w) rest before now →
+    (n : ℕ) (w : ChangeSet) (rest : Cells Touch) (before now next : Cells VersionChain) → AddsTouches n (touches_of w) rest before now →
     ((c : Cell) → chain_at next c ≡ chain_at now c) → IsGrown n w before next
 commit_grown n w rest before now next h same c = (ap (cut_from n) (same c) ∙ h.below c, λ apart. same c ∙ (h.apart c (among_touches w c ∙ apart)).1)
 
@@ -98,25 +98,25 @@ filter_twice {X = X} p (x ∷ xs) = go (p x) refl (filter_twice p xs)
     go true passes rest = ap (λ b. cond b (x ∷ filter p (filter p xs)) (filter p (filter p xs))) passes ∙ ap (λ (ys : List X). x ∷ ys) rest
     go false drops rest = rest
 
-cut_twice : (n : ℕ) (chain : Chain) → cut_from n (cut_from n chain) ≡ cut_from n chain
+cut_twice : (n : ℕ) (chain : VersionChain) → cut_from n (cut_from n chain) ≡ cut_from n chain
 cut_twice n chain i = record {
   versions = filter_twice (λ (v : ℕ × Option ℤ). nat_lt v.0 n) chain.versions i;
   marks = filter_twice (λ (m : ℕ). nat_lt m n) chain.marks i;
 }
 
 -- once the touches that are left are cut too, all of them are
-pub record CutsTouches (n : ℕ) (touches rest : Cells Touch) (before now : Cells Chain) : Type 0 where
+pub record CutsTouches (n : ℕ) (touches rest : Cells Touch) (before now : Cells VersionChain) : Type 0 where
   pub ends : (c : Cell) → (if is_cell_among (cells_of rest) c then cut_from n (chain_at now c) else chain_at now c) ≡ (if is_cell_among (cells_of touches) c then cut_from n (chain_at before c) else chain_at before c)
   pub hold : EachHolds before → EachHolds now
 
-pub cuts_begin : (n : ℕ) (touches left : Cells Touch) (before : Cells Chain) → left ≡ touches → CutsTouches n touches left before before
+pub cuts_begin : (n : ℕ) (touches left : Cells Touch) (before : Cells VersionChain) → left ≡ touches → CutsTouches n touches left before before
 cuts_begin n touches left before is = record {
   ends = λ c. ap (λ (ts : Cells Touch). if is_cell_among (cells_of ts) c then cut_from n (chain_at before c) else chain_at before c) is;
   hold = λ holds. holds;
 }
 
 pub one_more_cut :
-    (n : ℕ) (touches left rest : Cells Touch) (k : Cell) (touch : Touch) (before now next : Cells Chain) → left ≡ (k, touch) ∷ rest → CutsTouches n touches left before now →
+    (n : ℕ) (touches left rest : Cells Touch) (k : Cell) (touch : Touch) (before now next : Cells VersionChain) → left ≡ (k, touch) ∷ rest → CutsTouches n touches left before now →
     MakesAt k (cut_from n) now next → (EachHolds now → EachHolds next) → CutsTouches n touches rest before next
 one_more_cut n touches left rest k touch before now next is so_far made holds_next = record {
   ends = λ c.
@@ -129,7 +129,7 @@ one_more_cut n touches left rest k touch before now next is so_far made holds_ne
     h : CutsTouches n touches ((k, touch) ∷ rest) before now
     h = subst (λ (ts : Cells Touch). CutsTouches n touches ts before now) is so_far
 
-    go : (a b : Bool) (chain : Chain) → (if b then cut_from n (if a then cut_from n chain else chain) else (if a then cut_from n chain else chain)) ≡ (if a || b then cut_from n chain else chain)
+    go : (a b : Bool) (chain : VersionChain) → (if b then cut_from n (if a then cut_from n chain else chain) else (if a then cut_from n chain else chain)) ≡ (if a || b then cut_from n chain else chain)
     go true true chain = cut_twice n chain
     go true false chain = refl
     go false true chain = refl
@@ -137,7 +137,7 @@ one_more_cut n touches left rest k touch before now next is so_far made holds_ne
 
 -- all cells that a commit touches were cut
 pub commit_cut :
-    (n : ℕ) (w : ChangeSet) (left : Cells Touch) (before now : Cells Chain) → left ≡ [] → CutsTouches n (touches_of w) left before now → MakesTouched w (cut_from n) before now
+    (n : ℕ) (w : ChangeSet) (left : Cells Touch) (before now : Cells VersionChain) → left ≡ [] → CutsTouches n (touches_of w) left before now → MakesTouched w (cut_from n) before now
 commit_cut n w left before now none h c =
     ap (λ (ts : Cells Touch). if is_cell_among (cells_of ts) c then cut_from n (chain_at now c) else chain_at now c) (sym none)
     ∙ h.ends c

@@ -7,10 +7,10 @@ use Rattle.prog_tree.specs.declared.cell.Cell.{Cell}
 use Rattle.prog_tree.specs.declared.cell.Region.{Region}
 use Rattle.prog_tree.specs.Number.{least, greatest}
 use Rattle.prog_tree.specs.Table.{cell_cmp, is_in, is_same_cell, Cells, at_cell, TableState}
-use Rattle.version_store.specs.declared.block.Block.{Block}
+use Rattle.version_store.specs.declared.block.RowBlock.{RowBlock}
 use Rattle.version_store.specs.declared.block.Slot.{Slot}
 use Rattle.version_store.specs.declared.stretch.Stretch.{Stretch}
-use Rattle.version_store.specs.StandsFor.{Chain}
+use Rattle.version_store.specs.StandsFor.{VersionChain}
 use Rattle.version_store.specs.Reading.{value_after}
 use Rattle.version_store.specs.Regions.{seen_in, seen_between, IsSeen}
 
@@ -33,17 +33,17 @@ abbrev pub HoldsIn : Stretch → List (ℕ × Option ℤ) → Type 0
 HoldsIn stretch vs = (n : ℕ) → InStretch stretch n → value_after n None vs ≡ stretch.value
 
 -- between its corners a region has the value of a stretch of a cell with a chain after each number of commits in it
-abbrev pub SeesIn : Region → Stretch → Cell → Chain → Type 0
+abbrev pub SeesIn : Region → Stretch → Cell → VersionChain → Type 0
 SeesIn region stretch c chain = (n : ℕ) → InStretch stretch n → seen_between region n c chain ≡ stretch.value
 
 -- ---- what blocks say of chains
 
 -- a block says what is after n commits
-abbrev pub SaysOf : (n : ℕ) → Block → Type 0
+abbrev pub SaysOf : (n : ℕ) → RowBlock → Type 0
 SaysOf n block = (block.since ≤ n) × (n < block.till)
 
 -- no older block does
-abbrev pub IsSilent : (n : ℕ) → Option Block → Type 0
+abbrev pub IsSilent : (n : ℕ) → Option RowBlock → Type 0
 IsSilent n older = IfSome older (λ block. SaysOf n block → ⊥)
 
 -- no block of a slot does
@@ -51,38 +51,38 @@ abbrev pub IsSilentSlot : (n : ℕ) → Slot → Type 0
 IsSilentSlot n slot = (SaysOf n slot.newest → ⊥) × IsSilent n slot.older
 
 -- a block has the rows of a region after each number of commits from a floor on, from `since` on and below `till`
-abbrev pub IsTrueBlock : (floor : ℕ) → Cells Chain → Region → Block → Type 0
+abbrev pub IsTrueBlock : (floor : ℕ) → Cells VersionChain → Region → RowBlock → Type 0
 IsTrueBlock floor chains region block =
     (n : ℕ) → floor ≤ n → block.since ≤ n → n < block.till → IsSeen (seen_in region n) chains block.rows
 
 -- so has each block of a slot
-abbrev pub IsTrueSlot : (floor : ℕ) → Cells Chain → Slot → Type 0
+abbrev pub IsTrueSlot : (floor : ℕ) → Cells VersionChain → Slot → Type 0
 IsTrueSlot floor chains slot =
     IsTrueBlock floor chains slot.region slot.newest × IfSome slot.older (IsTrueBlock floor chains slot.region)
 
 -- so has a slot, where there is one
-abbrev pub IsTrueAt : (floor : ℕ) → Cells Chain → Option Slot → Type 0
+abbrev pub IsTrueAt : (floor : ℕ) → Cells VersionChain → Option Slot → Type 0
 IsTrueAt floor chains None = ⊤
 IsTrueAt floor chains (Some slot) = IsTrueSlot floor chains slot
 
 -- all slots
-abbrev pub AreTrue : (floor : ℕ) → Cells Chain → Cells Slot → Type 0
+abbrev pub AreTrue : (floor : ℕ) → Cells VersionChain → Cells Slot → Type 0
 AreTrue floor chains slots = (key : Cell) → IsTrueAt floor chains (at_cell slots key)
 
 -- what is true of chains from a floor on stays true
-abbrev pub StaysTrue : Cells Chain → Cells Slot → Cells Slot → Type 0
+abbrev pub StaysTrue : Cells VersionChain → Cells Slot → Cells Slot → Type 0
 StaysTrue chains old new = (floor : ℕ) → AreTrue floor chains old → AreTrue floor chains new
 
 -- rows are those of an older block after a number of commits, if it is true from no later floor on
-abbrev pub IsOfOlder : (n : ℕ) → Option Block → TableState → Type 0
+abbrev pub IsOfOlder : (n : ℕ) → Option RowBlock → TableState → Type 0
 IsOfOlder n older rows =
-    (floor : ℕ) → floor ≤ n → (chains : Cells Chain) → (region : Region) → IfSome older (IsTrueBlock floor chains region) →
+    (floor : ℕ) → floor ≤ n → (chains : Cells VersionChain) → (region : Region) → IfSome older (IsTrueBlock floor chains region) →
     IsSeen (seen_in region n) chains rows
 
 -- rows are those of a region after a number of commits, if a slot is true from no later floor on
 abbrev pub IsBySlot : (n : ℕ) → Slot → Region → TableState → Type 0
 IsBySlot n slot region rows =
-    (floor : ℕ) → floor ≤ n → (chains : Cells Chain) → IsTrueSlot floor chains slot → IsSeen (seen_in region n) chains rows
+    (floor : ℕ) → floor ≤ n → (chains : Cells VersionChain) → IsTrueSlot floor chains slot → IsSeen (seen_in region n) chains rows
 
 -- rows are those of the slot's own region
 abbrev pub IsOfSlot : (n : ℕ) → Slot → TableState → Type 0
@@ -101,18 +101,18 @@ IsTaken before after key = (c : Cell) → at_cell after c ≡ if is_same_cell ke
 -- ---- a slot takes a block
 
 -- a slot of one block
-abbrev pub one_block : Region → Block → Slot
+abbrev pub one_block : Region → RowBlock → Slot
 one_block region block = record { region = region; newest = block; older = None }
 
 -- of its blocks and a new one it keeps the newest, and with it the new one or the newest of the others
-abbrev pub with_block : Block → Slot → Slot
+abbrev pub with_block : RowBlock → Slot → Slot
 with_block block slot =
     if leb slot.newest.since block.since then record slot { newest = block; older = Some slot.newest } else record slot { older = Some block }
 
 -- ---- blocks that end
 
 -- a block without what it says from a commit on
-abbrev pub ended : (number : ℕ) → Block → Block
+abbrev pub ended : (number : ℕ) → RowBlock → RowBlock
 ended number block = record block { till = min block.till number }
 
 abbrev pub ended_slot : (number : ℕ) → Slot → Slot

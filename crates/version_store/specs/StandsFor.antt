@@ -11,16 +11,16 @@ use Rattle.version_store.specs.Versions.{retained}
 
 -- what a store keeps of a cell: its values and removals, each with the number of its commit, and the numbers of the
 -- commits that keep it; both rise
-pub record Chain : Type 0 where
+pub record VersionChain : Type 0 where
   pub versions : List (ℕ × Option ℤ)
   pub marks : List ℕ
 
-abbrev pub no_chain : Chain
+abbrev pub no_chain : VersionChain
 no_chain = record { versions = []; marks = [] }
 
 -- what contracts see of a store
 pub record StoreView : Type 0 where
-  pub chains : Cells Chain
+  pub chains : Cells VersionChain
   pub commits : ℕ
   pub floor : ℕ
   pub versions : ℕ
@@ -43,24 +43,24 @@ marks_of c n [] = []
 marks_of c n (w ∷ ws) = if is_cell_among w.kept c then n ∷ marks_of c (n + 1) ws else marks_of c (n + 1) ws
 
 -- all of a cell in a history, where an opening row is a version of number 0
-abbrev pub chain_of : TableState → List ChangeSet → Cell → Chain
+abbrev pub chain_of : TableState → List ChangeSet → Cell → VersionChain
 chain_of opening ws c = record { versions = shown 0 (row_at opening c) ++ changes_of c 1 ws; marks = marks_of c 1 ws }
 
 -- what is kept at a cell holds something
-abbrev pub HoldsSome : Option Chain → Type 0
+abbrev pub HoldsSome : Option VersionChain → Type 0
 HoldsSome None = ⊤
 HoldsSome (Some chain) = chain ≡ no_chain → ⊥
 
 -- each chain that is kept holds something: a cell without versions and marks has none
-abbrev pub EachHolds : Cells Chain → Type 0
+abbrev pub EachHolds : Cells VersionChain → Type 0
 EachHolds chains = (c : Cell) → HoldsSome (at_cell chains c)
 
 -- what a vacuum at f leaves of a chain
-abbrev pub trimmed : (f : ℕ) → Chain → Chain
+abbrev pub trimmed : (f : ℕ) → VersionChain → VersionChain
 trimmed f chain = record { versions = versions_kept f [] chain.versions; marks = marks_kept f chain.marks }
 
 -- how many versions the chains have together
-abbrev pub size : Cells Chain → ℕ
+abbrev pub size : Cells VersionChain → ℕ
 size chains = sum_by (λ chain. length chain.versions) (values_of chains)
 
 -- the changed cells of each commit rise strictly, so each stands once

@@ -3,14 +3,14 @@ ghost use Rattle.std.specs.Prelude.{◌≡◌, ◌↔◌, ℕ, None, IfSome, IsT
 ghost use Rattle.prog_tree.specs.Table.{Cells};
 ghost use Rattle.version_store.specs.Blocks.{IsTrueBlock, IsTrueSlot, IsOfOlder, IsOfSlot};
 ghost use Rattle.version_store.specs.Blocks.{IsSilent, IsSilentSlot, SaysOf, ended, ended_slot, with_block};
-ghost use Rattle.version_store.specs.StandsFor.{Chain};
+ghost use Rattle.version_store.specs.StandsFor.{VersionChain};
 
 use prog_tree::{Piece, Region};
 use std::mem;
 
 /// The rows of some cells, after each number of commits from `since` on and below `till`.
 #[derive(Debug, Drop)]
-pub struct Block {
+pub struct RowBlock {
     pub since: u64,
     pub till: u64,
     pub rows: Piece,
@@ -20,11 +20,11 @@ pub struct Block {
 #[derive(Debug, Drop)]
 pub struct Slot {
     pub region: Region,
-    pub newest: Block,
-    pub older: Option<Block>,
+    pub newest: RowBlock,
+    pub older: Option<RowBlock>,
 }
 
-impl Block {
+impl RowBlock {
     // Whether it says what is after the first `start` commits.
     fn is_of(&self, start: u64) -> bool
         ensures { IsTrue result ↔ SaysOf start self.now }
@@ -41,7 +41,7 @@ impl Block {
 }
 
 // Ends a block, if there is one.
-fn end_older(older: &mut Option<Block>, number: u64)
+fn end_older(older: &mut Option<RowBlock>, number: u64)
     ensures { older.new ≡ option_map (ended number) older.old }
 {
     if let Some(block) = older {
@@ -50,7 +50,7 @@ fn end_older(older: &mut Option<Block>, number: u64)
 }
 
 // The rows of an older block after the first `start` commits, if it has them.
-fn rows_of_older(older: &Option<Block>, start: u64) -> Option<&Piece>
+fn rows_of_older(older: &Option<RowBlock>, start: u64) -> Option<&Piece>
     ensures rows { IfSome result (λ rows. IsOfOlder start older.now rows.now) }
     ensures none { result ≡ None → IsSilent start older.now }
 {
@@ -83,9 +83,9 @@ impl Slot {
     }
 
     /// Takes a block of its cells, and keeps the newest of the others.
-    pub fn add(&mut self, block: Block)
+    pub fn add(&mut self, block: RowBlock)
         ensures takes { self.new ≡ with_block block self.old }
-        ensures true_slot { (floor : ℕ) (chains : Cells Chain) →
+        ensures true_slot { (floor : ℕ) (chains : Cells VersionChain) →
             IsTrueBlock 0 chains self.old.region block →
             IsTrueSlot floor chains self.old → IsTrueSlot floor chains self.new }
     {

@@ -3,7 +3,7 @@ ghost use Rattle.std.specs.Prelude.{◌≡◌, ◌<◌, IfOk};
 ghost use Rattle.version_store.specs.Blocks.{IsTrueBlock, SaysOf, last_u64};
 ghost use Rattle.version_store.specs.Reading.{AllRise};
 
-use crate::block::Block;
+use crate::block::RowBlock;
 use crate::chains::Chains;
 use crate::found::push_row;
 use crate::stretch::stretch_between;
@@ -16,7 +16,7 @@ pub const NEW_CELLS: usize = 64;
 /// A block, and how many cells with chains it is of.
 #[derive(Drop)]
 pub struct Walked {
-    pub block: Block,
+    pub block: RowBlock,
     pub cells: usize,
 }
 
@@ -26,14 +26,14 @@ fn block_with(
     mut rows: Vec<(Cell, i64)>,
     since: u64,
     till: u64,
-) -> Result<Block, AllocError>
+) -> Result<RowBlock, AllocError>
     ensures rows { IfOk result (λ block. block.rows ≡ rows.items) }
     ensures since { IfOk result (λ block. block.since ≡ since) }
     ensures till { IfOk result (λ block. block.till ≡ till) }
 {
     rows.shrink_to_fit();
     let rows = Piece::new(alloc, rows)?;
-    Ok(Block { since, till, rows })
+    Ok(RowBlock { since, till, rows })
 }
 
 impl Chains {

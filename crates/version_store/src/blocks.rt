@@ -9,9 +9,9 @@ ghost use Rattle.version_store.specs.Blocks.{AreEnded, AreEndedIn, HasAt, HasCel
 ghost use Rattle.version_store.specs.Blocks.{IsPut, IsTaken, IsTrueBlock, LeavesFree, Reaches};
 ghost use Rattle.version_store.specs.Blocks.{StandsBehind, StaysTrue, one_block, with_block};
 ghost use Rattle.version_store.specs.declared.block.Slot.{Slot};
-ghost use Rattle.version_store.specs.StandsFor.{Chain};
+ghost use Rattle.version_store.specs.StandsFor.{VersionChain};
 
-use crate::block::{Block, Slot};
+use crate::block::{RowBlock, Slot};
 use prog_tree::{Cell, Changes, Region};
 use std::alloc::{AllocError, Global};
 use std::collections::BTreeMap;
@@ -94,7 +94,7 @@ impl Blocks {
     pub fn limit(&mut self, cells: usize)
         ensures keeps { length self.old ≤ cells / FEWEST_CELLS → self.new ≡ self.old }
         ensures drops { cells / FEWEST_CELLS < length self.old → self.new ≡ [] }
-        ensures stays { (chains : Cells Chain) → StaysTrue chains self.old self.new }
+        ensures stays { (chains : Cells VersionChain) → StaysTrue chains self.old self.new }
     {
         if self.slots.len() > cells / FEWEST_CELLS {
             self.clear();
@@ -122,7 +122,7 @@ impl Blocks {
         ensures ended { AreEnded number cell.now self.new }
         ensures region { IfSome result (λ region. AreEndedIn number region self.new) }
         ensures others { (c : Cell) → AreEnded number c self.old → AreEnded number c self.new }
-        ensures stays { (chains : Cells Chain) → StaysTrue chains self.old self.new }
+        ensures stays { (chains : Cells VersionChain) → StaysTrue chains self.old self.new }
     {
         let Some(key) = self.key_of(cell) else {
             return None;
@@ -140,7 +140,7 @@ impl Blocks {
     pub fn end_changed(&mut self, number: u64, changes: &Changes)
         ensures ended { (c : Cell) → is_some (change_at changes.now c) ≡ true →
             AreEnded number c self.new }
-        ensures stays { (chains : Cells Chain) → StaysTrue chains self.old self.new }
+        ensures stays { (chains : Cells VersionChain) → StaysTrue chains self.old self.new }
     {
         if self.is_empty() {
             return;
@@ -164,11 +164,11 @@ impl Blocks {
     }
 
     /// Makes a slot of a block, where none has any of its cells.
-    pub fn insert(&mut self, region: &Region, block: Block) -> Result<(), AllocError>
+    pub fn insert(&mut self, region: &Region, block: RowBlock) -> Result<(), AllocError>
         ensures inserted { OnOk result ((low high : Cell) →
             AreCorners region.now (Some (low, high)) → LeavesFree low high self.old →
             IsPut self.old self.new high (one_block region.now block)) }
-        ensures stays { (chains : Cells Chain) →
+        ensures stays { (chains : Cells VersionChain) →
             IsTrueBlock 0 chains region.now block →
             StaysTrue chains self.old self.new }
     {
@@ -190,18 +190,18 @@ impl Blocks {
     /// Drops the slot of a key.
     pub fn remove(&mut self, key: &Cell)
         ensures gone { IsTaken self.old self.new key.now }
-        ensures stays { (chains : Cells Chain) → StaysTrue chains self.old self.new }
+        ensures stays { (chains : Cells VersionChain) → StaysTrue chains self.old self.new }
     {
         let _ = self.slots.remove(key);
     }
 
     /// Adds a block to the slot of a key, where that is just of this region.
-    pub fn add(&mut self, key: &Cell, region: &Region, block: Block)
+    pub fn add(&mut self, key: &Cell, region: &Region, block: RowBlock)
         ensures added { HasSlot self.old key.now region.now → (slot : Slot) →
             at_cell self.old key.now ≡ Some slot →
             IsPut self.old self.new key.now (with_block block slot) }
         ensures kept { (HasSlot self.old key.now region.now → ⊥) → self.new ≡ self.old }
-        ensures stays { (chains : Cells Chain) →
+        ensures stays { (chains : Cells VersionChain) →
             IsTrueBlock 0 chains region.now block →
             StaysTrue chains self.old self.new }
     {

@@ -16,15 +16,15 @@ use std::marker::Model;
 
 /// The versions of a cell, and the numbers of the commits that keep it. Both rise.
 #[derive(Debug, Drop)]
-pub struct Chain {
+pub struct VersionChain {
     versions: Versions,
     marks: Rare<u64>,
 }
 
-impl Model for Chain {
-    ghost use Rattle.version_store.specs.StandsFor.{Chain};
+impl Model for VersionChain {
+    ghost use Rattle.version_store.specs.StandsFor.{VersionChain};
 
-    ghost Value = { Chain };
+    ghost Value = { VersionChain };
 
     ghost view = { λ c. record { versions = c.versions; marks = c.marks } };
 }
@@ -47,11 +47,11 @@ fn outdated_marks(marks: &[u64], floor: u64) -> usize
     marks.iter().take_while(|mark| **mark <= floor).count()
 }
 
-impl Chain {
+impl VersionChain {
     pub fn new(alloc: Global) -> Self
         ensures { result ≡ no_chain }
     {
-        Chain {
+        VersionChain {
             versions: Versions::new(alloc),
             marks: Rare::new(alloc),
         }

@@ -12,7 +12,7 @@ ghost use Rattle.version_store.specs.StandsFor.{no_chain, size, trimmed, EachHol
 ghost use Rattle.version_store.specs.Touches.{with_touch};
 ghost use Rattle.version_store.specs.Trimming.{within, beyond};
 
-use crate::chain::Chain;
+use crate::chain::VersionChain;
 use crate::pending::Pending;
 use crate::touches::{Touch, Touches};
 use prog_tree::{Cell, Changes, Rows};
@@ -24,26 +24,26 @@ use std::marker::Model;
 #[derive(Debug, Drop)]
 pub struct Chains {
     pub alloc: Global,
-    pub chains: BTreeMap<Cell, Chain>,
+    pub chains: BTreeMap<Cell, VersionChain>,
 }
 
 impl Model for Chains {
     ghost use Rattle.prog_tree.specs.Table.{Cells};
-    ghost use Rattle.version_store.specs.StandsFor.{Chain};
+    ghost use Rattle.version_store.specs.StandsFor.{VersionChain};
 
-    ghost Value = { Cells Chain };
+    ghost Value = { Cells VersionChain };
 
     ghost view = { λ c. c.chains.entries };
 }
 
 // The chains of opening rows with their cells, in the order of these.
-fn opening_chains(alloc: Global, opening: &Rows) -> Result<Vec<(Cell, Chain)>, AllocError>
+fn opening_chains(alloc: Global, opening: &Rows) -> Result<Vec<(Cell, VersionChain)>, AllocError>
     ensures chains { IfOk result (λ chains. chains.items ≡ opening_chains opening.now) }
     ensures ordered { IfOk result (λ chains. IsTableState opening.now) }
 {
     let mut chains = Vec::with_capacity(alloc, opening.len())?;
     for (cell, value) in opening.iter() {
-        let mut chain = Chain::new(alloc);
+        let mut chain = VersionChain::new(alloc);
         chain.add(0, Touch::Change(Some(*value)))?;
         chains.push((*cell, chain))?;
     }
@@ -51,7 +51,10 @@ fn opening_chains(alloc: Global, opening: &Rows) -> Result<Vec<(Cell, Chain)>, A
 }
 
 // The map of chains with their cells. That of cells which rise is built without a search for each.
-fn map_of(alloc: Global, chains: Vec<(Cell, Chain)>) -> Result<BTreeMap<Cell, Chain>, AllocError>
+fn map_of(
+    alloc: Global,
+    chains: Vec<(Cell, VersionChain)>,
+) -> Result<BTreeMap<Cell, VersionChain>, AllocError>
     ensures { IfOk result (IsFromIterResult cell_cmp chains.items) }
 {
     chains.into_iter().collect(alloc)
@@ -113,7 +116,7 @@ impl Chains {
         ensures hold { EachHolds self.old → EachHolds self.new }
     {
         let entry = self.chains.entry(cell)?;
-        let chain = entry.or_insert(Chain::new(self.alloc));
+        let chain = entry.or_insert(VersionChain::new(self.alloc));
         let Ok(()) = chain.add(number, touch) else {
             self.drop_if_empty(&cell);
             return Err(AllocError);

@@ -4,12 +4,17 @@ ghost use Rattle.prog_tree.specs.Table.{TableState, is_cell_among, lies_between,
 ghost use Rattle.version_store.specs.Reading.{RisesFrom, value_at};
 ghost use Rattle.version_store.specs.Regions.{seen_between, left_between, with_found};
 
-use crate::chain::Chain;
+use crate::chain::VersionChain;
 use prog_tree::{Cell, Region, RisingCells, RowWalk, Rows};
 use std::alloc::AllocError;
 
 /// Adds the row of a cell after the first `start` commits, where it has one.
-pub fn add_found(rows: &mut Rows, start: u64, cell: &Cell, chain: &Chain) -> Result<(), AllocError>
+pub fn add_found(
+    rows: &mut Rows,
+    start: u64,
+    cell: &Cell,
+    chain: &VersionChain,
+) -> Result<(), AllocError>
     ensures { OnOk result (RisesFrom 0 chain.now.versions →
         rows.new ≡ with_found rows.old cell.now (value_at start chain.now)) }
 {
@@ -29,7 +34,7 @@ pub fn lies_between(low: i64, x: i64, high: i64) -> bool
 /// What is seen in a region of a cell between its corners. There the second column alone tells
 /// whether the cell is in the region.
 #[inline]
-pub fn seen_between(region: &Region, start: u64, cell: &Cell, chain: &Chain) -> Option<i64>
+pub fn seen_between(region: &Region, start: u64, cell: &Cell, chain: &VersionChain) -> Option<i64>
     ensures { RisesFrom 0 chain.now.versions →
         result ≡ seen_between region.now start cell.now chain.now }
 {
@@ -52,7 +57,7 @@ pub fn left_between(
     own: &RisingCells,
     start: u64,
     cell: &Cell,
-    chain: &Chain,
+    chain: &VersionChain,
 ) -> Option<i64>
     ensures { RisesFrom 0 chain.now.versions →
         result ≡ left_between region.now own.now start cell.now chain.now }

@@ -3,7 +3,7 @@ ghost use Rattle.std.specs.Prelude.{◌≡◌, ℕ, ◌<◌, ℤ, length, Option
 ghost use Rattle.version_store.specs.Blocks.{Covers, HoldsIn, InStretch, SeesIn};
 ghost use Rattle.version_store.specs.Reading.{RisesFrom};
 
-use crate::chain::Chain;
+use crate::chain::VersionChain;
 use crate::found::lies_between;
 use crate::version::Version;
 use crate::versions::count_within;
@@ -65,7 +65,7 @@ pub fn stretch_among(versions: &[Version], number: u64, end: u64) -> Stretch
 
 /// How long a region has of a cell between its corners what it had after the first `start` commits.
 #[inline]
-pub fn stretch_between(region: &Region, start: u64, cell: &Cell, chain: &Chain) -> Stretch
+pub fn stretch_between(region: &Region, start: u64, cell: &Cell, chain: &VersionChain) -> Stretch
     ensures sees { RisesFrom 0 chain.now.versions → SeesIn region.now result cell.now chain.now }
     ensures start { RisesFrom 0 chain.now.versions → Covers result start }
 {

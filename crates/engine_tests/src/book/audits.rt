@@ -2,7 +2,7 @@
 
 use crate::book::sets::rows_of;
 use example_sets::set_of;
-use history_book::{AnyFitFault, AuditFault, Book, HistoryRow, OrderFault, Reason};
+use history_book::{AnyFitFault, AuditFault, Book, HistoryRow, OrderFault, OrderReason};
 use prog_check::ProgramSet;
 use prog_tree::{Rows, Sequence};
 use std::alloc::Global;
@@ -121,7 +121,7 @@ pub struct Reasoned {
     pub set: &'static str,
     pub opening: &'static [(usize, i64, i64)],
     pub records: &'static [Record],
-    pub reasons: &'static [(u64, u64, Option<Reason>)],
+    pub reasons: &'static [(u64, u64, Option<OrderReason>)],
 }
 
 /// Asks the book of records for the reasons.

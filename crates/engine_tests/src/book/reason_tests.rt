@@ -5,7 +5,7 @@ use crate::book::sets::{
     BALANCE, DEPOSIT_CHECKING, FIRST_ROW, REGISTERS, SECOND_ROW, SET, TRANSACT_SAVING, WRITE_CHECK,
 };
 use example_sets::SMALL_BANK;
-use history_book::Reason;
+use history_book::OrderReason;
 use prog_tree::{Cell, Region};
 use std::alloc::Global;
 use std::process::Abort;
@@ -36,9 +36,9 @@ const ANOMALY: Reasoned = Reasoned {
         (WRITE_CHECK, &[1, 10], 0, &[]),
     ],
     reasons: &[
-        (1, 2, Some(Reason::Saw(FIRST_ROW))),
-        (2, 3, Some(Reason::Missed(CHECKING))),
-        (3, 1, Some(Reason::Missed(FIRST_ROW))),
+        (1, 2, Some(OrderReason::Saw(FIRST_ROW))),
+        (2, 3, Some(OrderReason::Missed(CHECKING))),
+        (3, 1, Some(OrderReason::Missed(FIRST_ROW))),
         (2, 1, None),
         (1, 3, None),
         (1, 1, None),
@@ -55,14 +55,14 @@ const DEPOSITS: Reasoned = Reasoned {
         (DEPOSIT_CHECKING, &[1, 5], 0, &[]),
         (DEPOSIT_CHECKING, &[1, 6], 1, &[]),
     ],
-    reasons: &[(1, 2, Some(Reason::Both(CHECKING))), (2, 1, None)],
+    reasons: &[(1, 2, Some(OrderReason::Both(CHECKING))), (2, 1, None)],
 };
 
 const REGISTER: Reasoned = Reasoned {
     set: REGISTERS,
     opening: &[],
     records: &[(SET, &[1, 5], 0, &[]), (SET, &[1, 6], 1, &[])],
-    reasons: &[(1, 2, Some(Reason::Both(FIRST_ROW))), (2, 1, None)],
+    reasons: &[(1, 2, Some(OrderReason::Both(FIRST_ROW))), (2, 1, None)],
 };
 
 /// Write skew: each counts two rows, and sets one.
@@ -71,8 +71,8 @@ const SKEW: Reasoned = Reasoned {
     opening: &[],
     records: &[(0, &[1], 0, &[]), (0, &[2], 0, &[])],
     reasons: &[
-        (1, 2, Some(Reason::MissedIn(BOTH_ROWS, SECOND_ROW))),
-        (2, 1, Some(Reason::MissedIn(BOTH_ROWS, FIRST_ROW))),
+        (1, 2, Some(OrderReason::MissedIn(BOTH_ROWS, SECOND_ROW))),
+        (2, 1, Some(OrderReason::MissedIn(BOTH_ROWS, FIRST_ROW))),
     ],
 };
 

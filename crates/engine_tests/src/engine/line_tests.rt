@@ -4,8 +4,8 @@ use example_sets::set_of;
 use prog_check::ProgramSet;
 use prog_tree::{Cell, Rows};
 use si_engine::{
-    Bytes, Records, Word, add_row, cut, is_skipped, line_words, number, number_between, numbers,
-    program_number, read_lines, read_part, read_script, row_line, table_number, unsigned,
+    Bytes, LineWord, Records, add_row, cut, is_skipped, line_words, number, number_between,
+    numbers, program_number, read_lines, read_part, read_script, row_line, table_number, unsigned,
     without_return,
 };
 use std::alloc::Global;
@@ -39,12 +39,12 @@ fn check_numbers(rt: &impl Abort, alloc: Global, line: &[u8], wanted: &[i64]) {
     assert!(rt; found.expect(rt, "numbers").as_slice() == wanted);
 }
 
-fn check_words(rt: &impl Abort, words: &[Word<'_>]) {
+fn check_words(rt: &impl Abort, words: &[LineWord<'_>]) {
     let [row, table, key] = words else {
         panic!(rt; "other words")
     };
     assert!(rt; row.as_bytes() == b"row".as_slice() && key.as_bytes() == b"7".as_slice());
-    assert!(rt; table.as_bytes() == Word::new(b"t").as_bytes());
+    assert!(rt; table.as_bytes() == LineWord::new(b"t").as_bytes());
 }
 
 #[test]

@@ -14,7 +14,7 @@ ghost use Rattle.history_book.specs.Runs.{IsFirstForeign, SameProgram, IsEndedRo
 ghost use Rattle.history_book.specs.View.{row_of, active_at, commits_in, state_in};
 
 use crate::book::Book;
-use crate::fault::{Difference, Refusal};
+use crate::fault::{Difference, EndRefusal};
 use crate::instances::active::Active;
 use crate::instances::row::{HistoryRow, same_numbers};
 use crate::instances::ticket::Ticket;
@@ -163,7 +163,7 @@ impl<'a> Book<'a> {
         ticket: &Ticket,
         run: &Run<'_>,
         ended: bool,
-    ) -> Option<Refusal>
+    ) -> Option<EndRefusal>
         ensures refused { IfSome result (λ refusal.
             IsRefusal self.now ticket.now run.now ended refusal) }
         ensures ended { IfNone result (ended ≡ true) }
@@ -172,19 +172,24 @@ impl<'a> Book<'a> {
         ensures within { IfNone result (ticket.now.start ≤ length self.now.rows) }
     {
         let Some(active) = self.active_instance(ticket) else {
-            return Some(Refusal::NoSuchTicket);
+            return Some(EndRefusal::NoSuchTicket);
         };
         if !ended {
-            return Some(Refusal::WrongEnd);
+            return Some(EndRefusal::WrongEnd);
         }
         if !self.has_program(active, run) {
-            return Some(Refusal::ForeignRun(Difference::Program));
+            return Some(EndRefusal::ForeignRun(Difference::Program));
         }
         None
     }
 
     /// The first reason, with what the run looked at.
-    pub(crate) fn refusal_of(&self, ticket: &Ticket, run: &Run<'_>, ended: bool) -> Option<Refusal>
+    pub(crate) fn refusal_of(
+        &self,
+        ticket: &Ticket,
+        run: &Run<'_>,
+        ended: bool,
+    ) -> Option<EndRefusal>
         ensures refused { IfSome result (λ refusal.
             IsRefusal self.now ticket.now run.now ended refusal) }
         ensures ended { IfNone result (ended ≡ true) }
@@ -194,7 +199,7 @@ impl<'a> Book<'a> {
             return Some(refusal);
         }
         let number = self.foreign_look(ticket.start, run.looks())?;
-        Some(Refusal::ForeignRun(Difference::Look(number)))
+        Some(EndRefusal::ForeignRun(Difference::Look(number)))
     }
 
     /// The row of the instance that a ticket and its own run end.

@@ -11,11 +11,11 @@ const FEW_NUMBERS: usize = 2;
 
 /// Numbers of commits in the order in which they came. Contracts see the list of them.
 #[derive(Debug, Drop)]
-pub(crate) struct Numbers {
+pub(crate) struct CommitNumbers {
     items: SmallVec<usize, FEW_NUMBERS>,
 }
 
-impl Model for Numbers {
+impl Model for CommitNumbers {
     ghost use Rattle.std.specs.Prelude.{List, ℕ};
 
     ghost Value = { List ℕ };
@@ -23,12 +23,12 @@ impl Model for Numbers {
     ghost view = { λ n. n.items.items };
 }
 
-impl Numbers {
+impl CommitNumbers {
     /// No numbers.
     pub(crate) fn new(alloc: Global) -> Self
         ensures { result ≡ [] }
     {
-        Numbers {
+        CommitNumbers {
             items: SmallVec::new(alloc),
         }
     }

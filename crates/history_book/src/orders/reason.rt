@@ -11,7 +11,7 @@ use prog_tree::{Cell, Region};
 
 /// Why the first of two commits has to stand before the second.
 #[derive(Clone, Copy, Debug, PartialEq, Eq)]
-pub enum Reason {
+pub enum OrderReason {
     /// Both changed the cell, in this order.
     Both(Cell),
     /// The first changed the cell, and the second looked at it and saw the change.
@@ -23,7 +23,12 @@ pub enum Reason {
 }
 
 // Why the first stands before the second, by a cell that it changed.
-fn change_reason_at(traces: &[Trace], first: usize, second: usize, cell: &Cell) -> Option<Reason>
+fn change_reason_at(
+    traces: &[Trace],
+    first: usize,
+    second: usize,
+    cell: &Cell,
+) -> Option<OrderReason>
     requires first { IsUpTo (length traces.now) first }
     requires second { IsUpTo (length traces.now) second }
     ensures { result ≡ if changed_before first second (trace_at traces.now second) cell.now
@@ -31,16 +36,16 @@ fn change_reason_at(traces: &[Trace], first: usize, second: usize, cell: &Cell) 
 {
     let after = trace_at(traces, second);
     if first < second && after.changed_at(cell) {
-        return Some(Reason::Both(*cell));
+        return Some(OrderReason::Both(*cell));
     }
     if first as u64 <= after.start && after.looked_at(cell) {
-        return Some(Reason::Saw(*cell));
+        return Some(OrderReason::Saw(*cell));
     }
     None
 }
 
 // Why the first stands before the second, by the first such cell of those that it changed.
-fn first_change_reason(traces: &[Trace], first: usize, second: usize) -> Option<Reason>
+fn first_change_reason(traces: &[Trace], first: usize, second: usize) -> Option<OrderReason>
     requires first { IsUpTo (length traces.now) first }
     requires second { IsUpTo (length traces.now) second }
     ensures { result
@@ -57,17 +62,17 @@ fn first_change_reason(traces: &[Trace], first: usize, second: usize) -> Option<
 }
 
 // What a look that takes in a cell missed there.
-fn missed_reason(sight: &Sight, cell: &Cell) -> Reason
+fn missed_reason(sight: &Sight, cell: &Cell) -> OrderReason
     ensures { result ≡ missed_by sight.now cell.now }
 {
     match sight {
-        Sight::One(_) => Reason::Missed(*cell),
-        Sight::Range { region, .. } => Reason::MissedIn(*region.get(), *cell),
+        Sight::One(_) => OrderReason::Missed(*cell),
+        Sight::Range { region, .. } => OrderReason::MissedIn(*region.get(), *cell),
     }
 }
 
 // What the first look of a commit that takes in a cell missed there.
-fn first_missed_reason(trace: &Trace, cell: &Cell) -> Option<Reason>
+fn first_missed_reason(trace: &Trace, cell: &Cell) -> Option<OrderReason>
     ensures { result ≡ missed_at trace.now cell.now }
 {
     let sights = trace.looked.as_slice();
@@ -80,7 +85,7 @@ fn first_missed_reason(trace: &Trace, cell: &Cell) -> Option<Reason>
 }
 
 // Why the first stands before the second, by the first such cell of those that the second changed.
-fn first_look_reason(traces: &[Trace], first: usize, second: usize) -> Option<Reason>
+fn first_look_reason(traces: &[Trace], first: usize, second: usize) -> Option<OrderReason>
     requires first { IsUpTo (length traces.now) first }
     requires second { IsUpTo (length traces.now) second }
     ensures { result ≡ by_look second (trace_at traces.now first) (trace_at traces.now second) }
@@ -100,7 +105,7 @@ fn first_look_reason(traces: &[Trace], first: usize, second: usize) -> Option<Re
 }
 
 /// Why one commit has to stand before another.
-pub fn reason_between(traces: &[Trace], first: usize, second: usize) -> Option<Reason>
+pub fn reason_between(traces: &[Trace], first: usize, second: usize) -> Option<OrderReason>
     requires first { IsUpTo (length traces.now) first }
     requires second { IsUpTo (length traces.now) second }
     ensures { result ≡ told_reason traces.now first second }

@@ -7,7 +7,7 @@ ghost use Rattle.history_book.specs.Traces.{changed_at};
 ghost use Rattle.history_book.specs.Reduced.{HasWriters, IsAddedAt, RiseFrom, IsCutBy, last_seen};
 ghost use Rattle.history_book.specs.Reduced.{first_missed};
 
-use crate::orders::numbers::Numbers;
+use crate::orders::numbers::CommitNumbers;
 use crate::orders::trace::Trace;
 use prog_tree::Cell;
 use std::alloc::{AllocError, Global};
@@ -18,7 +18,7 @@ use std::marker::Model;
 #[derive(Debug, Drop)]
 pub(crate) struct Writers {
     alloc: Global,
-    pub(crate) cells: BTreeMap<Cell, Numbers>,
+    pub(crate) cells: BTreeMap<Cell, CommitNumbers>,
 }
 
 impl Model for Writers {
@@ -46,7 +46,7 @@ impl Writers {
         ensures { OnOk result (IsAddedAt (is_same_cell cell) number self.old self.new) }
     {
         let entry = self.cells.entry(cell)?;
-        let numbers = entry.or_insert(Numbers::new(self.alloc));
+        let numbers = entry.or_insert(CommitNumbers::new(self.alloc));
         numbers.push(number)?;
         Ok(())
     }

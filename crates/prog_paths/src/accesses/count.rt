@@ -7,12 +7,12 @@ ghost use Rattle.prog_paths.specs.Questions.{asked_among, questions_of};
 ghost use Rattle.prog_paths.specs.Limits.{most_questions};
 ghost use Rattle.prog_paths.specs.Tally.{IsTally, of_table, is_behind, is_before, NextIsGreater};
 
-use crate::accesses::tally::{Tally, sum};
+use crate::accesses::tally::{AccessTally, sum};
 use crate::limits::MAX_QUESTIONS;
 use prog_check::{Access, Path};
 
 /// The tally of a table with the accesses of one more node.
-fn with_node(table: usize, accesses: &[Access], before: Tally) -> Tally
+fn with_node(table: usize, accesses: &[Access], before: AccessTally) -> AccessTally
     ensures { (node : ℕ) (places : List Placed) → All (λ p. p.node < node) places
         → IsTally table places before
         → IsTally table (places ++ placed_from node 0 accesses.now) result }
@@ -27,11 +27,11 @@ fn with_node(table: usize, accesses: &[Access], before: Tally) -> Tally
 }
 
 /// The tally of a table with the accesses of all nodes.
-fn tally_of(table: usize, paths: &[Path]) -> Tally
+fn tally_of(table: usize, paths: &[Path]) -> AccessTally
     ensures tally { IsTally table (all_from 0 paths.now) result }
     ensures fits { table < 2 ^ 64 }
 {
-    let mut tally = Tally::new();
+    let mut tally = AccessTally::new();
     for path in paths {
         tally = with_node(table, path.accesses.as_slice(), tally);
     }

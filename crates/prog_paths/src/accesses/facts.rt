@@ -72,7 +72,7 @@ pub fn second_terms(mine: Option<Column>, theirs: Option<Column>) -> Option<(Ter
 
 /// Two facts for each column.
 #[derive(Drop)]
-enum Held {
+enum ColumnFacts {
     OneColumn([Fact; 2]),
     TwoColumns([Fact; 4]),
 }
@@ -80,7 +80,7 @@ enum Held {
 /// The facts of a question, which take no memory.
 #[derive(Drop)]
 pub struct QuestionFacts {
-    held: Held,
+    held: ColumnFacts,
 }
 
 impl Model for QuestionFacts {
@@ -98,8 +98,8 @@ impl QuestionFacts {
         ensures { result.now ≡ self.now }
     {
         match &self.held {
-            Held::OneColumn(facts) => facts.as_slice(),
-            Held::TwoColumns(facts) => facts.as_slice(),
+            ColumnFacts::OneColumn(facts) => facts.as_slice(),
+            ColumnFacts::TwoColumns(facts) => facts.as_slice(),
         }
     }
 }
@@ -109,7 +109,7 @@ fn of_both(first: (Fact, Fact), second: (Fact, Fact)) -> QuestionFacts
     ensures { result ≡ first.0 ∷ first.1 ∷ second.0 ∷ second.1 ∷ [] }
 {
     QuestionFacts {
-        held: Held::TwoColumns([first.0, first.1, second.0, second.1]),
+        held: ColumnFacts::TwoColumns([first.0, first.1, second.0, second.1]),
     }
 }
 
@@ -121,7 +121,7 @@ pub fn question_facts(mine: &Access, theirs: &Access) -> QuestionFacts
     let first = column_facts(mine.first, theirs.first);
     match (mine.second, theirs.second) {
         (None, None) => QuestionFacts {
-            held: Held::OneColumn([first.0, first.1]),
+            held: ColumnFacts::OneColumn([first.0, first.1]),
         },
         (None, Some(theirs)) => of_both(first, column_facts(column_or_zero(None), theirs)),
         (Some(mine), theirs) => of_both(first, column_facts(mine, column_or_zero(theirs))),

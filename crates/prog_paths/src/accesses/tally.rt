@@ -10,7 +10,7 @@ use prog_check::Kind;
 /// How many accesses of a table there are of each sort, and how many questions these ask of each
 /// other. Each number goes no further than one above the limit.
 #[derive(Clone, Copy)]
-pub struct Tally {
+pub struct AccessTally {
     pub reads: usize,
     /// Accesses that only rows that are added concern.
     pub looks: usize,
@@ -26,12 +26,12 @@ pub fn sum(one: usize, other: usize) -> usize
     one.saturating_add(other).min(MAX_QUESTIONS + 1)
 }
 
-impl Tally {
+impl AccessTally {
     /// Of no accesses.
     pub fn new() -> Self
         ensures { (table : ℕ) → IsTally table [] result }
     {
-        Tally {
+        AccessTally {
             reads: 0,
             looks: 0,
             writes: 0,
@@ -46,7 +46,7 @@ impl Tally {
             → p.access.kind ≡ kind → StandsBehind p places
             → IsTally table places self → IsTally table (places ++ p ∷ []) result }
     {
-        let Tally {
+        let AccessTally {
             reads,
             looks,
             writes,
@@ -54,22 +54,22 @@ impl Tally {
             questions,
         } = self;
         match kind {
-            Kind::Reads => Tally {
+            Kind::Reads => AccessTally {
                 reads: sum(reads, 1),
                 questions: sum(questions, sum(writes, adds)),
                 ..self
             },
-            Kind::Sees | Kind::Lacks => Tally {
+            Kind::Sees | Kind::Lacks => AccessTally {
                 looks: sum(looks, 1),
                 questions: sum(questions, adds),
                 ..self
             },
-            Kind::Writes => Tally {
+            Kind::Writes => AccessTally {
                 writes: sum(writes, 1),
                 questions: sum(sum(questions, 1), sum(reads, writes)),
                 ..self
             },
-            Kind::Adds => Tally {
+            Kind::Adds => AccessTally {
                 adds: sum(adds, 1),
                 questions: sum(questions, sum(reads, looks)),
                 ..self

@@ -16,7 +16,7 @@ use std::alloc::Global;
 
 // What stands at the front of bytes, and the bytes behind it; no token for a space or a comment.
 #[derive(Drop)]
-struct Piece<'a> {
+struct Lexeme<'a> {
     token: Option<Token<'a>>,
     rest: &'a [u8],
 }
@@ -65,7 +65,7 @@ fn value(digits: &[u8]) -> Option<Magnitude>
 }
 
 #[tactic(auto, unfolding(crate::specs::Lexing::sign_at))]
-fn sign_piece(bytes: &[u8]) -> Result<Piece<'_>, LexError>
+fn sign_piece(bytes: &[u8]) -> Result<Lexeme<'_>, LexError>
     ensures reads { Gives (λ p. (p.token, p.rest.now)) result (sign_at bytes.now) }
     ensures shorter { IfOk result (λ p. length p.rest.now < length bytes.now) }
 {
@@ -92,7 +92,7 @@ fn sign_piece(bytes: &[u8]) -> Result<Piece<'_>, LexError>
         [byte, ..] if *byte >= 128 => return Err(at(Flaw::NotAscii, bytes)),
         _ => return Err(at(Flaw::UnknownByte, bytes)),
     };
-    Ok(Piece {
+    Ok(Lexeme {
         token: Some(Token::Sign(sign)),
         rest,
     })
@@ -109,7 +109,7 @@ fn at(flaw: Flaw, bytes: &[u8]) -> LexError
 }
 
 #[tactic(auto, unfolding(crate::specs::Lexing::word_at))]
-fn word_piece(bytes: &[u8]) -> Result<Piece<'_>, LexError>
+fn word_piece(bytes: &[u8]) -> Result<Lexeme<'_>, LexError>
     requires begins { 0 < length bytes.now }
     requires letter { is_letter (slice_index bytes.now 0) ≡ true }
     ensures reads { Gives (λ p. (p.token, p.rest.now)) result (word_at bytes.now) }
@@ -120,14 +120,14 @@ fn word_piece(bytes: &[u8]) -> Result<Piece<'_>, LexError>
         return Err(at(Flaw::NameTooLong, bytes));
     }
     let (word, rest) = bytes.split_at(len);
-    Ok(Piece {
+    Ok(Lexeme {
         token: Some(word_token(word)),
         rest,
     })
 }
 
 #[tactic(auto, unfolding(crate::specs::Lexing::number_at))]
-fn number_piece(bytes: &[u8]) -> Result<Piece<'_>, LexError>
+fn number_piece(bytes: &[u8]) -> Result<Lexeme<'_>, LexError>
     requires { 0 < length bytes.now }
     ensures reads { Gives (λ p. (p.token, p.rest.now)) result (number_at bytes.now) }
     ensures shorter { IfOk result (λ p. length p.rest.now < length bytes.now) }
@@ -135,7 +135,7 @@ fn number_piece(bytes: &[u8]) -> Result<Piece<'_>, LexError>
     let len = digits_len(&bytes[1..]) + 1;
     let (digits, rest) = bytes.split_at(len);
     match value(digits) {
-        Some(magnitude) => Ok(Piece {
+        Some(magnitude) => Ok(Lexeme {
             token: Some(Token::Number(magnitude)),
             rest,
         }),
@@ -144,20 +144,20 @@ fn number_piece(bytes: &[u8]) -> Result<Piece<'_>, LexError>
 }
 
 #[tactic(auto, unfolding(crate::specs::Lexing::piece_at))]
-fn next_piece(bytes: &[u8]) -> Result<Piece<'_>, LexError>
+fn next_piece(bytes: &[u8]) -> Result<Lexeme<'_>, LexError>
     requires { 0 < length bytes.now }
     ensures reads { Gives (λ p. (p.token, p.rest.now)) result (piece_at bytes.now) }
     ensures shorter { IfOk result (λ p. length p.rest.now < length bytes.now) }
 {
     let first = bytes[0];
     if is_space(first) {
-        Ok(Piece {
+        Ok(Lexeme {
             token: None,
             rest: &bytes[1..],
         })
     } else if first == b'#' {
         let comment = &bytes[1..];
-        Ok(Piece {
+        Ok(Lexeme {
             token: None,
             rest: &comment[comment_len(comment)..],
         })
@@ -179,7 +179,7 @@ pub fn tokens(alloc: Global, bytes: &[u8]) -> Result<PlacedTokens<'_>, LexError>
     let mut lefts = Vec::new(alloc);
     let mut rest = bytes;
     while !rest.is_empty() {
-        let Piece {
+        let Lexeme {
             token,
             rest: behind,
         } = next_piece(rest)?;

@@ -11,7 +11,7 @@ ghost use Rattle.prog_text.specs.OpenBlocks.{behind_each};
 use crate::lexing::token::Sign;
 use crate::limits::MAX_BRACKETS;
 use crate::reading::conditions::test;
-use crate::reading::cursor::Cursor;
+use crate::reading::cursor::TokenCursor;
 use crate::reading::keys::{Ranged, range};
 use crate::reading::read_error::ReadError;
 use crate::reading::statements::statement;
@@ -77,7 +77,7 @@ fn each(listing: Listing, body: Vec<Stmt>) -> Stmt
 
 // Behind the word `each`: two names and a range.
 #[tactic(auto, unfolding(crate::specs::Reading::listing_at))]
-fn listing(cursor: &mut Cursor<'_>) -> Result<Listing, ReadError>
+fn listing(cursor: &mut TokenCursor<'_>) -> Result<Listing, ReadError>
     ensures { Reads listing_tree listing_at result cursor.old cursor.new }
 {
     let key = cursor.name()?;
@@ -107,7 +107,7 @@ impl Body {
     #[tactic(auto, using(crate::proofs::BlockSteps::second_opens, crate::proofs::BlockSteps::first_ends))]
     fn end_first(
         &mut self,
-        cursor: &mut Cursor<'_>,
+        cursor: &mut TokenCursor<'_>,
         test: Test,
         before: Vec<Stmt>,
     ) -> Result<(), ReadError>
@@ -131,7 +131,7 @@ impl Body {
 
     // Goes on behind the closing sign of the innermost block.
     #[tactic(auto, using(crate::proofs::BlockSteps::second_ends, crate::proofs::BlockSteps::turns_end))]
-    fn end(&mut self, cursor: &mut Cursor<'_>, last: Open) -> Result<(), ReadError>
+    fn end(&mut self, cursor: &mut TokenCursor<'_>, last: Open) -> Result<(), ReadError>
         ensures { ReadsOn (behind_end last self.old cursor.old) result
             self.new cursor.old cursor.new }
     {
@@ -156,7 +156,7 @@ impl Body {
 
     // Goes on behind the word `if`, into the first block.
     #[tactic(auto, using(crate::proofs::BlockSteps::first_opens))]
-    fn begin_branch(&mut self, cursor: &mut Cursor<'_>) -> Result<(), ReadError>
+    fn begin_branch(&mut self, cursor: &mut TokenCursor<'_>) -> Result<(), ReadError>
         ensures { ReadsOn (behind_if self.old cursor.old) result self.new cursor.old cursor.new }
     {
         let test = test(cursor)?;
@@ -168,7 +168,7 @@ impl Body {
 
     // Goes on behind the word `each`, into its block.
     #[tactic(auto, using(crate::proofs::BlockSteps::turns_open))]
-    fn begin_each(&mut self, cursor: &mut Cursor<'_>) -> Result<(), ReadError>
+    fn begin_each(&mut self, cursor: &mut TokenCursor<'_>) -> Result<(), ReadError>
         ensures { ReadsOn (behind_each self.old cursor.old) result self.new cursor.old cursor.new }
     {
         let listing = listing(cursor)?;
@@ -181,7 +181,7 @@ impl Body {
     // Reads a statement, the beginning of a branch or of an `each`, or the end of a block, and
     // tells whether the outermost has ended.
     #[tactic(auto, using(crate::proofs::BlockSteps::next_ends, crate::proofs::BlockSteps::next_branches, crate::proofs::BlockSteps::next_repeats, crate::proofs::BlockSteps::next_goes_on, crate::proofs::BlockSteps::statement_further))]
-    fn next(&mut self, cursor: &mut Cursor<'_>) -> Result<bool, ReadError>
+    fn next(&mut self, cursor: &mut TokenCursor<'_>) -> Result<bool, ReadError>
         ensures { Steps (unread_of self.old cursor.old) result self.new cursor.old cursor.new }
     {
         if cursor.eat(Sign::CloseBlock) {
@@ -206,7 +206,7 @@ impl Body {
 
 /// A block with its two signs.
 #[tactic(auto, using(crate::proofs::BlockSteps::block_begins))]
-pub fn block(cursor: &mut Cursor<'_>) -> Result<Block, ReadError>
+pub fn block(cursor: &mut TokenCursor<'_>) -> Result<Block, ReadError>
     ensures { Reads block_tree (block_at body_at) result cursor.old cursor.new }
 {
     cursor.expect(Sign::OpenBlock)?;

@@ -5,13 +5,13 @@ ghost use Rattle.prog_text.specs.Cursor.{Reads};
 ghost use Rattle.prog_text.specs.Reading.{relation_at, comparison_at, conjunction_at, test_at};
 
 use crate::lexing::token::{Sign, Token};
-use crate::reading::cursor::Cursor;
+use crate::reading::cursor::TokenCursor;
 use crate::reading::expressions::expr;
 use crate::reading::read_error::{ReadError, unexpected};
 use prog_tree::{Clause, Comparison, Relation, Test};
 
 // A sign that compares.
-fn relation(cursor: &mut Cursor<'_>) -> Result<Relation, ReadError>
+fn relation(cursor: &mut TokenCursor<'_>) -> Result<Relation, ReadError>
     ensures { Reads relation_sign relation_at result cursor.old cursor.new }
 {
     let tokens = cursor.tokens;
@@ -28,7 +28,7 @@ fn relation(cursor: &mut Cursor<'_>) -> Result<Relation, ReadError>
 
 // Two expressions with a sign between them that compares; a `not` in front negates it.
 #[tactic(auto, unfolding(crate::specs::Reading::comparison_at, crate::specs::Reading::compared_at))]
-fn comparison(cursor: &mut Cursor<'_>) -> Result<Comparison, ReadError>
+fn comparison(cursor: &mut TokenCursor<'_>) -> Result<Comparison, ReadError>
     ensures { Reads comparison_tree comparison_at result cursor.old cursor.new }
 {
     let negated = cursor.eat(Sign::Not);
@@ -45,7 +45,7 @@ fn comparison(cursor: &mut Cursor<'_>) -> Result<Comparison, ReadError>
 
 // Comparisons with `and` between them.
 #[tactic(auto, unfolding(crate::specs::Reading::separated_at, crate::specs::Reading::many_from))]
-fn conjunction(cursor: &mut Cursor<'_>) -> Result<Clause, ReadError>
+fn conjunction(cursor: &mut TokenCursor<'_>) -> Result<Clause, ReadError>
     ensures { Reads clause_tree conjunction_at result cursor.old cursor.new }
 {
     let mut all = Vec::new(cursor.alloc);
@@ -58,7 +58,7 @@ fn conjunction(cursor: &mut Cursor<'_>) -> Result<Clause, ReadError>
 
 /// A test: conjunctions with `or` between them.
 #[tactic(auto, unfolding(crate::specs::Reading::separated_at, crate::specs::Reading::many_from))]
-pub fn test(cursor: &mut Cursor<'_>) -> Result<Test, ReadError>
+pub fn test(cursor: &mut TokenCursor<'_>) -> Result<Test, ReadError>
     ensures { Reads test_tree test_at result cursor.old cursor.new }
 {
     let mut any = Vec::new(cursor.alloc);

@@ -10,13 +10,13 @@ use std::alloc::Global;
 
 /// The tokens that are still to be read.
 #[derive(Drop)]
-pub struct Cursor<'a> {
+pub struct TokenCursor<'a> {
     /// Where what is read finds its memory.
     pub alloc: Global,
     pub tokens: &'a [Token<'a>],
 }
 
-impl<'a> Cursor<'a> {
+impl<'a> TokenCursor<'a> {
     /// Reads a token, whichever it is.
     pub fn next(&mut self) -> Result<&'a Token<'a>, ReadError>
         ensures { Reads (λ token. token.now) next_at result self.old self.new }

@@ -7,7 +7,7 @@ ghost use Rattle.prog_text.specs.Cursor.{Reads};
 ghost use Rattle.prog_text.specs.Reading.{negative_at, factor_at, product_at, expr_at};
 
 use crate::lexing::token::{Sign, Token};
-use crate::reading::cursor::Cursor;
+use crate::reading::cursor::TokenCursor;
 use crate::reading::read_error::{ReadError, unexpected};
 use prog_tree::{Expr, Name};
 use std::alloc::{AllocError, Global};
@@ -31,7 +31,7 @@ fn minus(alloc: Global, left: Expr, right: Expr) -> Result<Expr, AllocError>
 }
 
 // The number after a minus sign.
-fn negative_literal(cursor: &mut Cursor<'_>) -> Result<Expr, ReadError>
+fn negative_literal(cursor: &mut TokenCursor<'_>) -> Result<Expr, ReadError>
     ensures { Reads expr_tree negative_at result cursor.old cursor.new }
 {
     let tokens = cursor.tokens;
@@ -43,7 +43,7 @@ fn negative_literal(cursor: &mut Cursor<'_>) -> Result<Expr, ReadError>
 
 #[cycle(expr)]
 #[tactic(auto, unfolding(crate::specs::Reading::factor_at))]
-fn factor(cursor: &mut Cursor<'_>) -> Result<Expr, ReadError>
+fn factor(cursor: &mut TokenCursor<'_>) -> Result<Expr, ReadError>
     ensures { Reads expr_tree (factor_at expr_at) result cursor.old cursor.new }
 {
     let tokens = cursor.tokens;
@@ -65,7 +65,7 @@ fn factor(cursor: &mut Cursor<'_>) -> Result<Expr, ReadError>
 // Factors with `*` between them.
 #[cycle(expr)]
 #[tactic(auto, unfolding(crate::specs::Reading::product_at, crate::specs::Reading::product_from))]
-fn product(cursor: &mut Cursor<'_>) -> Result<Expr, ReadError>
+fn product(cursor: &mut TokenCursor<'_>) -> Result<Expr, ReadError>
     ensures { Reads expr_tree (product_at expr_at) result cursor.old cursor.new }
 {
     let mut left = factor(cursor)?;
@@ -79,7 +79,7 @@ fn product(cursor: &mut Cursor<'_>) -> Result<Expr, ReadError>
 /// An expression. Each bracket in it is one call deeper; `too_deep` lets `MAX_BRACKETS` through.
 #[cycle(expr)]
 #[tactic(auto, unfolding(crate::specs::Reading::sum_at, crate::specs::Reading::sum_from))]
-pub fn expr(cursor: &mut Cursor<'_>) -> Result<Expr, ReadError>
+pub fn expr(cursor: &mut TokenCursor<'_>) -> Result<Expr, ReadError>
     ensures { Reads expr_tree expr_at result cursor.old cursor.new }
 {
     let mut left = product(cursor)?;

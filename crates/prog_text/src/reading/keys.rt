@@ -6,7 +6,7 @@ ghost use Rattle.prog_text.specs.Reading.{key_from, key_at, high_at, range_from,
 ghost use Rattle.prog_text.specs.Cursor.{Reads, keyed_tree, ranged_tree};
 
 use crate::lexing::token::Sign;
-use crate::reading::cursor::Cursor;
+use crate::reading::cursor::TokenCursor;
 use crate::reading::expressions::expr;
 use crate::reading::read_error::ReadError;
 use prog_tree::{Expr, Key, Name, Range};
@@ -27,7 +27,7 @@ pub struct Ranged {
 
 // Behind the first expression of a key.
 #[tactic(auto, unfolding(crate::specs::Reading::key_from))]
-fn key_behind(cursor: &mut Cursor<'_>, first: Expr) -> Result<Key, ReadError>
+fn key_behind(cursor: &mut TokenCursor<'_>, first: Expr) -> Result<Key, ReadError>
     ensures { Reads key_tree (key_from (expr_tree first)) result cursor.old cursor.new }
 {
     if cursor.eat(Sign::Comma) {
@@ -41,7 +41,7 @@ fn key_behind(cursor: &mut Cursor<'_>, first: Expr) -> Result<Key, ReadError>
 
 /// A table's name and a key.
 #[tactic(auto, unfolding(crate::specs::Reading::key_at))]
-pub fn key(cursor: &mut Cursor<'_>) -> Result<Keyed, ReadError>
+pub fn key(cursor: &mut TokenCursor<'_>) -> Result<Keyed, ReadError>
     ensures { Reads keyed_tree key_at result cursor.old cursor.new }
 {
     let table = cursor.name()?;
@@ -53,7 +53,7 @@ pub fn key(cursor: &mut Cursor<'_>) -> Result<Keyed, ReadError>
 
 // Behind the low end of a range: the high one.
 #[tactic(auto, unfolding(crate::specs::Reading::high_at))]
-fn high(cursor: &mut Cursor<'_>) -> Result<Expr, ReadError>
+fn high(cursor: &mut TokenCursor<'_>) -> Result<Expr, ReadError>
     ensures { Reads expr_tree high_at result cursor.old cursor.new }
 {
     cursor.expect(Sign::Dots)?;
@@ -64,7 +64,7 @@ fn high(cursor: &mut Cursor<'_>) -> Result<Expr, ReadError>
 
 // Behind the first expression of a range.
 #[tactic(auto, unfolding(crate::specs::Reading::range_from))]
-fn range_behind(cursor: &mut Cursor<'_>, first: Expr) -> Result<Range, ReadError>
+fn range_behind(cursor: &mut TokenCursor<'_>, first: Expr) -> Result<Range, ReadError>
     ensures { Reads range_tree (range_from (expr_tree first)) result cursor.old cursor.new }
 {
     if cursor.eat(Sign::Comma) {
@@ -78,7 +78,7 @@ fn range_behind(cursor: &mut Cursor<'_>, first: Expr) -> Result<Range, ReadError
 
 /// A table's name and a range.
 #[tactic(auto, unfolding(crate::specs::Reading::range_at))]
-pub fn range(cursor: &mut Cursor<'_>) -> Result<Ranged, ReadError>
+pub fn range(cursor: &mut TokenCursor<'_>) -> Result<Ranged, ReadError>
     ensures { Reads ranged_tree range_at result cursor.old cursor.new }
 {
     let table = cursor.name()?;

@@ -8,14 +8,14 @@ ghost use Rattle.prog_text.specs.Reading.{params_at, program_at, programs_at, se
 
 use crate::lexing::token::{Sign, Token};
 use crate::reading::blocks::block;
-use crate::reading::cursor::Cursor;
+use crate::reading::cursor::TokenCursor;
 use crate::reading::read_error::{ReadError, unexpected};
 use prog_tree::{Arity, Draft, Name, Program, TableDecl};
 use std::alloc::Global;
 
 // The number of a table's key columns: 1 or 2.
 #[tactic(auto, unfolding(crate::specs::Reading::arity_at))]
-fn arity(cursor: &mut Cursor<'_>) -> Result<Arity, ReadError>
+fn arity(cursor: &mut TokenCursor<'_>) -> Result<Arity, ReadError>
     ensures { Reads itself arity_at result cursor.old cursor.new }
 {
     let tokens = cursor.tokens;
@@ -31,7 +31,7 @@ fn arity(cursor: &mut Cursor<'_>) -> Result<Arity, ReadError>
 
 // Behind the word `table`.
 #[tactic(auto, unfolding(crate::specs::Reading::table_at))]
-fn table(cursor: &mut Cursor<'_>) -> Result<TableDecl, ReadError>
+fn table(cursor: &mut TokenCursor<'_>) -> Result<TableDecl, ReadError>
     ensures { Reads itself table_at result cursor.old cursor.new }
 {
     let name = cursor.name()?;
@@ -43,7 +43,7 @@ fn table(cursor: &mut Cursor<'_>) -> Result<TableDecl, ReadError>
 
 // The tables at the front of a set.
 #[tactic(auto, unfolding(crate::specs::Reading::many_from))]
-fn read_tables(cursor: &mut Cursor<'_>) -> Result<Vec<TableDecl>, ReadError>
+fn read_tables(cursor: &mut TokenCursor<'_>) -> Result<Vec<TableDecl>, ReadError>
     ensures { Gives (λ tables. (tables.items, cursor.new.tokens.now)) result
         (tables_at cursor.old.tokens.now) }
 {
@@ -56,7 +56,7 @@ fn read_tables(cursor: &mut Cursor<'_>) -> Result<Vec<TableDecl>, ReadError>
 
 // Names with a comma between them.
 #[tactic(auto, using(crate::proofs::Viewed::none_further), unfolding(crate::specs::Reading::separated_at, crate::specs::Reading::many_from))]
-fn names(cursor: &mut Cursor<'_>) -> Result<Vec<Name>, ReadError>
+fn names(cursor: &mut TokenCursor<'_>) -> Result<Vec<Name>, ReadError>
     ensures { Reads (λ names. names.items) names_at result cursor.old cursor.new }
 {
     let mut names = Vec::new(cursor.alloc);
@@ -69,7 +69,7 @@ fn names(cursor: &mut Cursor<'_>) -> Result<Vec<Name>, ReadError>
 
 // The parameters of a program and the closing bracket.
 #[tactic(auto, unfolding(crate::specs::Reading::params_at))]
-fn params(cursor: &mut Cursor<'_>) -> Result<Vec<Name>, ReadError>
+fn params(cursor: &mut TokenCursor<'_>) -> Result<Vec<Name>, ReadError>
     ensures { Reads (λ names. names.items) params_at result cursor.old cursor.new }
 {
     if cursor.eat(Sign::Close) {
@@ -82,7 +82,7 @@ fn params(cursor: &mut Cursor<'_>) -> Result<Vec<Name>, ReadError>
 
 // Behind the word `program`.
 #[tactic(auto, unfolding(crate::specs::Reading::program_at))]
-fn program(cursor: &mut Cursor<'_>) -> Result<Program, ReadError>
+fn program(cursor: &mut TokenCursor<'_>) -> Result<Program, ReadError>
     ensures { Reads program_tree program_at result cursor.old cursor.new }
 {
     let name = cursor.name()?;
@@ -94,7 +94,7 @@ fn program(cursor: &mut Cursor<'_>) -> Result<Program, ReadError>
 
 // The programs at the end of a set.
 #[tactic(auto, using(crate::proofs::Viewed::none_further), unfolding(crate::specs::Reading::many_from))]
-fn read_programs(cursor: &mut Cursor<'_>) -> Result<Vec<Program>, ReadError>
+fn read_programs(cursor: &mut TokenCursor<'_>) -> Result<Vec<Program>, ReadError>
     ensures { Gives (λ programs. (map program_tree programs.items, cursor.new.tokens.now)) result
         (programs_at cursor.old.tokens.now) }
 {
@@ -110,7 +110,7 @@ fn read_programs(cursor: &mut Cursor<'_>) -> Result<Vec<Program>, ReadError>
 pub fn set(alloc: Global, tokens: &[Token<'_>]) -> Result<Draft, ReadError>
     ensures { Gives (λ draft. (draft_tree draft, [])) result (set_at tokens.now) }
 {
-    let mut cursor = Cursor { alloc, tokens };
+    let mut cursor = TokenCursor { alloc, tokens };
     let tables = read_tables(&mut cursor)?;
     let programs = read_programs(&mut cursor)?;
     cursor.end()?;

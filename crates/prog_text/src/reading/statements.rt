@@ -6,7 +6,7 @@ ghost use Rattle.prog_text.specs.Reading.{last_expr_at, last_key_at, last_range_
 ghost use Rattle.prog_text.specs.Reading.{get_at, bound_at, let_at, statement_at};
 
 use crate::lexing::token::{Sign, Token};
-use crate::reading::cursor::Cursor;
+use crate::reading::cursor::TokenCursor;
 use crate::reading::expressions::expr;
 use crate::reading::keys::{Keyed, Ranged, key, range};
 use crate::reading::read_error::{ReadError, unexpected};
@@ -22,7 +22,7 @@ pub struct Assigned {
 
 // An expression and `;`.
 #[tactic(auto, unfolding(crate::specs::Reading::last_expr_at))]
-fn last_expr(cursor: &mut Cursor<'_>) -> Result<Expr, ReadError>
+fn last_expr(cursor: &mut TokenCursor<'_>) -> Result<Expr, ReadError>
     ensures { Reads expr_tree last_expr_at result cursor.old cursor.new }
 {
     let value = expr(cursor)?;
@@ -32,7 +32,7 @@ fn last_expr(cursor: &mut Cursor<'_>) -> Result<Expr, ReadError>
 
 // A key and `;`.
 #[tactic(auto, unfolding(crate::specs::Reading::last_key_at))]
-fn last_key(cursor: &mut Cursor<'_>) -> Result<Keyed, ReadError>
+fn last_key(cursor: &mut TokenCursor<'_>) -> Result<Keyed, ReadError>
     ensures { Reads keyed_tree last_key_at result cursor.old cursor.new }
 {
     let keyed = key(cursor)?;
@@ -42,7 +42,7 @@ fn last_key(cursor: &mut Cursor<'_>) -> Result<Keyed, ReadError>
 
 // A range and `;`.
 #[tactic(auto, unfolding(crate::specs::Reading::last_range_at))]
-fn last_range(cursor: &mut Cursor<'_>) -> Result<Ranged, ReadError>
+fn last_range(cursor: &mut TokenCursor<'_>) -> Result<Ranged, ReadError>
     ensures { Reads ranged_tree last_range_at result cursor.old cursor.new }
 {
     let ranged = range(cursor)?;
@@ -52,7 +52,7 @@ fn last_range(cursor: &mut Cursor<'_>) -> Result<Ranged, ReadError>
 
 // A key, `=`, an expression and `;`.
 #[tactic(auto, unfolding(crate::specs::Reading::assigned_at))]
-fn assignment(cursor: &mut Cursor<'_>) -> Result<Assigned, ReadError>
+fn assignment(cursor: &mut TokenCursor<'_>) -> Result<Assigned, ReadError>
     ensures { Reads assigned_tree assigned_at result cursor.old cursor.new }
 {
     let Keyed { table, key } = key(cursor)?;
@@ -63,7 +63,7 @@ fn assignment(cursor: &mut Cursor<'_>) -> Result<Assigned, ReadError>
 
 // Behind `let NAME = get`.
 #[tactic(auto, unfolding(crate::specs::Reading::get_at))]
-fn get(cursor: &mut Cursor<'_>, name: Name) -> Result<Stmt, ReadError>
+fn get(cursor: &mut TokenCursor<'_>, name: Name) -> Result<Stmt, ReadError>
     ensures { ReadsPlain (get_at name) result cursor.old cursor.new }
 {
     let Keyed { table, key } = key(cursor)?;
@@ -79,7 +79,7 @@ fn get(cursor: &mut Cursor<'_>, name: Name) -> Result<Stmt, ReadError>
 
 // Behind `let NAME =`, by the first token.
 #[tactic(auto, unfolding(crate::specs::Reading::bound_at, crate::specs::Reading::bind_at))]
-fn bound_value(cursor: &mut Cursor<'_>, name: Name) -> Result<Stmt, ReadError>
+fn bound_value(cursor: &mut TokenCursor<'_>, name: Name) -> Result<Stmt, ReadError>
     ensures { ReadsPlain (bound_at name) result cursor.old cursor.new }
 {
     if cursor.eat(Sign::Get) {
@@ -103,7 +103,7 @@ fn bound_value(cursor: &mut Cursor<'_>, name: Name) -> Result<Stmt, ReadError>
 
 // Behind the word `let`.
 #[tactic(auto, unfolding(crate::specs::Reading::let_at))]
-fn let_binding(cursor: &mut Cursor<'_>) -> Result<Stmt, ReadError>
+fn let_binding(cursor: &mut TokenCursor<'_>) -> Result<Stmt, ReadError>
     ensures { ReadsPlain let_at result cursor.old cursor.new }
 {
     let name = cursor.name()?;
@@ -113,7 +113,7 @@ fn let_binding(cursor: &mut Cursor<'_>) -> Result<Stmt, ReadError>
 
 /// A statement without blocks.
 #[tactic(auto, unfolding(crate::specs::Reading::statement_at))]
-pub fn statement(cursor: &mut Cursor<'_>) -> Result<Stmt, ReadError>
+pub fn statement(cursor: &mut TokenCursor<'_>) -> Result<Stmt, ReadError>
     ensures { ReadsPlain statement_at result cursor.old cursor.new }
 {
     let tokens = cursor.tokens;

@@ -7,7 +7,7 @@ ghost use Rattle.robust_cert.specs.Sharing.{Entry};
 
 use crate::certificate::Certificate;
 use crate::checking::flaw::{EntryFlaw, asked_pair, check_reason};
-use crate::checking::numbers::Numbers;
+use crate::checking::numbers::AskedNumbers;
 use crate::entries::Entries;
 use crate::fault::CertFault;
 use prog_check::Path;
@@ -21,8 +21,8 @@ fn is_behind_last(entries: &Entries, k: usize) -> bool
     if k == 0 {
         return true;
     }
-    let last = Numbers::from(entries.question(k - 1));
-    let this = Numbers::from(entries.question(k));
+    let last = AskedNumbers::from(entries.question(k - 1));
+    let this = AskedNumbers::from(entries.question(k));
     last.is_before(this)
 }
 
@@ -33,7 +33,7 @@ fn check_entry(paths: &[Path], entries: &Entries, k: usize) -> Result<(), CertFa
     ensures fault { IfErr result (λ fault. IsFaultAt paths.now entries.now k fault) }
 {
     let question = entries.question(k);
-    let Some(asked) = asked_pair(paths, Numbers::from(question)) else {
+    let Some(asked) = asked_pair(paths, AskedNumbers::from(question)) else {
         return Err(CertFault::NoSuchEntry(k));
     };
     if !is_behind_last(entries, k) {

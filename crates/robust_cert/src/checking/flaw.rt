@@ -14,7 +14,7 @@ ghost use Rattle.robust_cert.specs.Flaws.{facts_between, IsAskedPair, CoversWith
 use crate::certificate::EntryQuestion;
 use crate::chain::Chain;
 use crate::checking::by_facts::{AskedPair, falls, runs};
-use crate::checking::numbers::Numbers;
+use crate::checking::numbers::AskedNumbers;
 use crate::entries::Reason;
 use order_facts::Node;
 use prog_check::{Access, Path, Term};
@@ -35,7 +35,7 @@ fn access_at(paths: &[Path], node: usize, number: usize) -> Option<&Access>
 }
 
 /// The two accesses of a question, if the paths ask it.
-pub fn asked_pair(paths: &[Path], question: Numbers) -> Option<AskedPair<'_>>
+pub fn asked_pair(paths: &[Path], question: AskedNumbers) -> Option<AskedPair<'_>>
     ensures some { IfSome result (λ pair.
         IsAskedPair paths.now (question_with question) pair.mine.now pair.theirs.now) }
     ensures none { IfNone result (¬ IsQuestion paths.now (question_with question)) }
@@ -113,7 +113,7 @@ fn column_count(mine: &Access, theirs: &Access) -> usize
 /// The two accesses that a cover names, if they may cover the question and have so many chains.
 fn covers_with<'a>(
     paths: &'a [Path],
-    question: Numbers,
+    question: AskedNumbers,
     asked: AskedPair<'_>,
     cover: (usize, usize),
     count: usize,
@@ -164,7 +164,7 @@ pub fn check_reason(
             theirs,
             chains,
         } => {
-            let question = Numbers::from(question);
+            let question = AskedNumbers::from(question);
             let cover = (*mine as usize, *theirs as usize);
             let Some((mine, theirs)) = covers_with(paths, question, asked, cover, chains.len())
             else {

@@ -6,7 +6,7 @@ ghost use Rattle.order_facts.specs.Square.{Enters};
 ghost use Rattle.robust_cert.specs.Accepted.{question_of};
 ghost use Rattle.robust_cert.specs.Leaving.{some_edge, some_vulnerable, Leaves, IsReady, Passes};
 
-use crate::checking::numbers::Numbers;
+use crate::checking::numbers::AskedNumbers;
 use crate::checking::telling::{mark_with, telling_at};
 use crate::entries::Entries;
 use prog_check::Path;
@@ -29,7 +29,7 @@ fn enter_question(
         return cursor;
     }
     let question = question_between(first, second);
-    let (telling, behind) = telling_at(entries, cursor, Numbers::from(question));
+    let (telling, behind) = telling_at(entries, cursor, AskedNumbers::from(question));
     left.enter(mark_with(question, telling));
     behind
 }

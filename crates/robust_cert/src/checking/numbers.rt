@@ -9,7 +9,7 @@ use prog_paths::Question;
 
 /// Access `a` of node `x` against access `b` of node `y`.
 #[derive(Clone, Copy)]
-pub struct Numbers {
+pub struct AskedNumbers {
     pub x: usize,
     pub a: usize,
     pub y: usize,
@@ -23,7 +23,7 @@ fn is_place_before(x: usize, a: usize, y: usize, b: usize) -> bool
 }
 
 /// Those that a certificate tells of a question.
-impl From<EntryQuestion> for Numbers {
+impl From<EntryQuestion> for AskedNumbers {
     ghost use Rattle.std.specs.Prelude.{◌≡◌};
     ghost use Rattle.robust_cert.specs.Accepted.{numbers_told};
     ghost use Rattle.robust_cert.specs.Telling.{question_with};
@@ -31,7 +31,7 @@ impl From<EntryQuestion> for Numbers {
     ghost from_gives = { λ question numbers. question_with numbers ≡ numbers_told question };
 
     fn from(question: EntryQuestion) -> Self {
-        Numbers {
+        AskedNumbers {
             x: question.x as usize,
             a: question.a as usize,
             y: question.y as usize,
@@ -41,7 +41,7 @@ impl From<EntryQuestion> for Numbers {
 }
 
 /// Those of a question of the paths.
-impl From<Question> for Numbers {
+impl From<Question> for AskedNumbers {
     ghost use Rattle.std.specs.Prelude.{◌≡◌};
     ghost use Rattle.prog_paths.specs.Questions.{numbers_of};
     ghost use Rattle.robust_cert.specs.Telling.{question_with};
@@ -49,7 +49,7 @@ impl From<Question> for Numbers {
     ghost from_gives = { λ question numbers. question_with numbers ≡ numbers_of question };
 
     fn from(question: Question) -> Self {
-        Numbers {
+        AskedNumbers {
             x: question.x,
             a: question.a,
             y: question.y,
@@ -58,8 +58,8 @@ impl From<Question> for Numbers {
     }
 }
 
-impl Numbers {
-    pub fn is_before(self, other: Numbers) -> bool
+impl AskedNumbers {
+    pub fn is_before(self, other: AskedNumbers) -> bool
         ensures { IsTrue result ↔ IsBefore (question_with self) (question_with other) }
     {
         is_place_before(self.x, self.a, other.x, other.a)
@@ -68,7 +68,7 @@ impl Numbers {
                 && is_place_before(self.y, self.b, other.y, other.b))
     }
 
-    pub fn is_same(self, other: Numbers) -> bool
+    pub fn is_same(self, other: AskedNumbers) -> bool
         ensures { result ≡ is_same (question_with self) (question_with other) }
     {
         self.x == other.x && (self.a == other.a && (self.y == other.y && self.b == other.b))

@@ -14,7 +14,7 @@ use crate::certificate::Certificate;
 use crate::fault::{JsonFault, Untaken};
 use crate::text::compact::compact_candidate;
 use crate::text::pieces::CertificateText;
-use crate::text::version::Version;
+use crate::text::version::TextVersion;
 use crate::text::whole::{certificate_of, object_of};
 use serde_json::Value;
 use std::alloc::{AllocError, Global};
@@ -32,16 +32,16 @@ fn value_of(alloc: Global, bytes: &[u8]) -> Result<Value, JsonFault>
     }
 }
 
-fn version_in(value: &Value) -> Result<Version, JsonFault>
+fn version_in(value: &Value) -> Result<TextVersion, JsonFault>
     ensures ok { IfOk result (λ version. version_of (view value.now) ≡ Some (number_of version)) }
     ensures fault { IfErr result (IsFaultOf (view value.now)) }
 {
     let version = value.get("version").ok_or(JsonFault::WrongShape)?;
     if version.as_u64() == Some(1) {
-        return Ok(Version::First);
+        return Ok(TextVersion::First);
     }
     if version.as_u64() == Some(2) {
-        return Ok(Version::Second);
+        return Ok(TextVersion::Second);
     }
     if version.is_u64() || version.is_i64() {
         return Err(JsonFault::WrongVersion);

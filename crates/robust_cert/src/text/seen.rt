@@ -10,7 +10,7 @@ const MIN_TEXT_WITH_SLOTS: usize = 16_384;
 
 // The text of a reason, with the end of its entry, and the number of an entry that has it.
 #[derive(Clone, Copy)]
-struct Slot<'a> {
+struct SeenSlot<'a> {
     text: &'a [u8],
     entry: usize,
 }
@@ -32,7 +32,7 @@ fn slot_of(bytes: &[u8]) -> usize {
 /// Reasons as far as they are remembered: a slot holds the last one that came there.
 #[derive(Drop)]
 pub(crate) struct Seen<'a> {
-    slots: Vec<Option<Slot<'a>>>,
+    slots: Vec<Option<SeenSlot<'a>>>,
 }
 
 impl<'a> Seen<'a> {
@@ -61,7 +61,7 @@ impl<'a> Seen<'a> {
             return;
         };
         if let Some(slot) = self.slots.get_mut(slot_of(bytes)) {
-            *slot = Some(Slot {
+            *slot = Some(SeenSlot {
                 text: &bytes[..length],
                 entry,
             });

@@ -3,7 +3,7 @@
 /// The second version says how many accesses of each node stand in the body of an `each`. The
 /// first stands for none.
 #[derive(Clone, Copy)]
-pub enum Version {
+pub enum TextVersion {
     First,
     Second,
 }

@@ -12,7 +12,7 @@ use crate::entries::Entries;
 use crate::fault::Untaken;
 use crate::text::part::list_of;
 use crate::text::shape::entries_of;
-use crate::text::version::Version;
+use crate::text::version::TextVersion;
 use prog_tree::Sequence;
 use serde_json::{Map, Value};
 use std::alloc::{AllocError, Global};
@@ -107,7 +107,7 @@ fn second_of(alloc: Global, mut members: Map<String, Value>) -> Result<Certifica
 /// The certificate of which these are the members, where the version is known.
 pub fn certificate_of(
     alloc: Global,
-    version: Version,
+    version: TextVersion,
     members: Map<String, Value>,
 ) -> Result<Certificate, Untaken>
     requires { version_of (object (members_view members.entries)) ≡ Some (number_of version) }
@@ -116,8 +116,8 @@ pub fn certificate_of(
         → (c : Certificate) → ¬ IsValueOf c (object (members_view members.entries)) }
 {
     match version {
-        Version::First => first_of(alloc, members),
-        Version::Second => second_of(alloc, members),
+        TextVersion::First => first_of(alloc, members),
+        TextVersion::Second => second_of(alloc, members),
     }
 }
 

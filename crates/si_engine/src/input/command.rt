@@ -9,7 +9,7 @@ ghost use Rattle.si_engine.specs.LineFaults.{Reads};
 
 use crate::event::Event;
 use crate::input::line_fault::LineFault;
-use crate::input::line_words::{Word, line_words};
+use crate::input::line_words::{LineWord, line_words};
 use crate::input::lines::is_skipped;
 use crate::input::names::program_number;
 use crate::input::number::{number_between, numbers, unsigned};
@@ -39,7 +39,7 @@ pub enum Command {
 }
 
 #[tactic(auto, unfolding(crate::specs::Commands::row_command))]
-fn row(set: &ProgramSet, line: usize, words: &[Word<'_>]) -> Result<Command, LineFault>
+fn row(set: &ProgramSet, line: usize, words: &[LineWord<'_>]) -> Result<Command, LineFault>
     ensures { result ≡ row_command (draft_tree set.now) line words.now }
 {
     let row = row_line(set, line, words)?;
@@ -52,7 +52,7 @@ fn read_call(
     alloc: Global,
     set: &ProgramSet,
     line: usize,
-    words: &[Word<'_>],
+    words: &[LineWord<'_>],
 ) -> Result<ProgramCall, LineFault>
     ensures { Reads (λ call. call) result (program_call (draft_tree set.now) line words.now) }
 {
@@ -69,7 +69,7 @@ fn begin(
     alloc: Global,
     set: &ProgramSet,
     line: usize,
-    words: &[Word<'_>],
+    words: &[LineWord<'_>],
 ) -> Result<Command, LineFault>
     ensures { Reads (λ command. command) result
         (begin_command (draft_tree set.now) line words.now) }
@@ -83,7 +83,7 @@ fn begin_at(
     alloc: Global,
     set: &ProgramSet,
     line: usize,
-    words: &[Word<'_>],
+    words: &[LineWord<'_>],
 ) -> Result<Command, LineFault>
     ensures { Reads (λ command. command) result
         (begin_at_command (draft_tree set.now) line words.now) }
@@ -102,13 +102,13 @@ fn begin_at(
 }
 
 // The number of an instance.
-fn instance(word: &Word<'_>) -> Option<usize>
+fn instance(word: &LineWord<'_>) -> Option<usize>
     ensures { result ≡ instance_number word.now }
 {
     number_between(0, MAX_INSTANCE, word.as_bytes())
 }
 
-fn steps(number: &Word<'_>, times: &Word<'_>) -> Option<Command>
+fn steps(number: &LineWord<'_>, times: &LineWord<'_>) -> Option<Command>
     ensures { result ≡ steps_of number.now times.now }
 {
     let instance = instance(number)?;
@@ -117,7 +117,7 @@ fn steps(number: &Word<'_>, times: &Word<'_>) -> Option<Command>
 }
 
 #[tactic(auto, unfolding(crate::specs::Commands::step_command))]
-fn step(line: usize, words: &[Word<'_>]) -> Result<Command, LineFault>
+fn step(line: usize, words: &[LineWord<'_>]) -> Result<Command, LineFault>
     ensures { result ≡ step_command line words.now }
 {
     let step = match words {
@@ -130,7 +130,7 @@ fn step(line: usize, words: &[Word<'_>]) -> Result<Command, LineFault>
 
 // The instance that a line names, and nothing else.
 #[tactic(auto, unfolding(crate::specs::Commands::one_instance))]
-fn one_instance(line: usize, words: &[Word<'_>]) -> Result<usize, LineFault>
+fn one_instance(line: usize, words: &[LineWord<'_>]) -> Result<usize, LineFault>
     ensures { result ≡ one_instance line words.now }
 {
     let [word] = words else {
@@ -140,7 +140,7 @@ fn one_instance(line: usize, words: &[Word<'_>]) -> Result<usize, LineFault>
 }
 
 #[tactic(auto, unfolding(crate::specs::Commands::commit_command))]
-fn commit(line: usize, words: &[Word<'_>]) -> Result<Command, LineFault>
+fn commit(line: usize, words: &[LineWord<'_>]) -> Result<Command, LineFault>
     ensures { result ≡ commit_command line words.now }
 {
     let instance = one_instance(line, words)?;
@@ -148,7 +148,7 @@ fn commit(line: usize, words: &[Word<'_>]) -> Result<Command, LineFault>
 }
 
 #[tactic(auto, unfolding(crate::specs::Commands::abort_command))]
-fn abort(line: usize, words: &[Word<'_>]) -> Result<Command, LineFault>
+fn abort(line: usize, words: &[LineWord<'_>]) -> Result<Command, LineFault>
     ensures { result ≡ abort_command line words.now }
 {
     let instance = one_instance(line, words)?;
@@ -156,7 +156,7 @@ fn abort(line: usize, words: &[Word<'_>]) -> Result<Command, LineFault>
 }
 
 #[tactic(auto, unfolding(crate::specs::Commands::vacuum_command))]
-fn vacuum(line: usize, words: &[Word<'_>]) -> Result<Command, LineFault>
+fn vacuum(line: usize, words: &[LineWord<'_>]) -> Result<Command, LineFault>
     ensures { result ≡ vacuum_command line words.now }
 {
     match words {
@@ -170,7 +170,7 @@ fn words_command(
     alloc: Global,
     set: &ProgramSet,
     line: usize,
-    words: &[Word<'_>],
+    words: &[LineWord<'_>],
 ) -> Result<Command, LineFault>
     ensures { Reads (λ command. command) result (command_of (draft_tree set.now) line words.now) }
 {

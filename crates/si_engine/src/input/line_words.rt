@@ -14,11 +14,11 @@ const FEW_WORDS: usize = 8;
 
 /// A word of a line. Contracts see its bytes.
 #[derive(Drop)]
-pub struct Word<'a> {
+pub struct LineWord<'a> {
     bytes: &'a [u8],
 }
 
-impl<'a> Model for Word<'a> {
+impl<'a> Model for LineWord<'a> {
     ghost use Rattle.std.specs.Prelude.{List, ℕ};
 
     ghost Value = { List ℕ };
@@ -26,11 +26,11 @@ impl<'a> Model for Word<'a> {
     ghost view = { λ w. w.bytes.now };
 }
 
-impl<'a> Word<'a> {
+impl<'a> LineWord<'a> {
     pub fn new(bytes: &'a [u8]) -> Self
         ensures { result ≡ bytes.now }
     {
-        Word { bytes }
+        LineWord { bytes }
     }
 
     pub fn as_bytes(&self) -> &'a [u8]
@@ -48,16 +48,16 @@ impl<'a> Word<'a> {
 }
 
 // An unused place among words.
-impl<'a> MadeWith<Global> for Word<'a> {
-    fn made_with(_alloc: Global) -> Word<'a> {
-        Word { bytes: &[] }
+impl<'a> MadeWith<Global> for LineWord<'a> {
+    fn made_with(_alloc: Global) -> LineWord<'a> {
+        LineWord { bytes: &[] }
     }
 }
 
 /// The words of a line, in their order. Contracts see them.
 #[derive(Drop)]
 pub struct LineWords<'a> {
-    words: SmallVec<Word<'a>, FEW_WORDS>,
+    words: SmallVec<LineWord<'a>, FEW_WORDS>,
 }
 
 impl<'a> Model for LineWords<'a> {
@@ -69,7 +69,7 @@ impl<'a> Model for LineWords<'a> {
 }
 
 impl<'a> LineWords<'a> {
-    pub fn as_slice(&self) -> &[Word<'a>]
+    pub fn as_slice(&self) -> &[LineWord<'a>]
         ensures { result.now ≡ self.now }
     {
         self.words.as_slice()
@@ -100,7 +100,7 @@ pub fn line_words(alloc: Global, line: &[u8]) -> Result<LineWords<'_>, AllocErro
     let mut words = SmallVec::new(alloc);
     let mut rest = line;
     while let Some((word, behind)) = first_word(rest) {
-        words.push(Word::new(word))?;
+        words.push(LineWord::new(word))?;
         rest = behind;
     }
     Ok(LineWords { words })

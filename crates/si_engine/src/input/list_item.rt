@@ -5,7 +5,7 @@ ghost use Rattle.prog_tree.specs.Tree.{draft_tree};
 ghost use Rattle.si_engine.specs.LineFaults.{Reads};
 
 use crate::input::line_fault::LineFault;
-use crate::input::line_words::Word;
+use crate::input::line_words::LineWord;
 use prog_check::ProgramSet;
 use std::alloc::Global;
 
@@ -26,7 +26,7 @@ pub trait ListItem: Drop {
         alloc: Global,
         set: &ProgramSet,
         line: usize,
-        words: &[Word<'_>],
+        words: &[LineWord<'_>],
     ) -> Result<Self, LineFault>
         ensures { Reads (λ item. item) result (item_of (draft_tree set.now) line words.now) };
 }

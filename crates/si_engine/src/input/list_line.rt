@@ -5,7 +5,7 @@ ghost use Rattle.si_engine.specs.ListLines.{list_line_of, list_line};
 ghost use Rattle.si_engine.specs.LineFaults.{Reads};
 
 use crate::input::line_fault::LineFault;
-use crate::input::line_words::{Word, line_words};
+use crate::input::line_words::{LineWord, line_words};
 use crate::input::lines::is_skipped;
 use crate::input::list_item::ListItem;
 use crate::input::row_line::{RowLine, row_line};
@@ -28,7 +28,7 @@ fn words_line<T: ListItem>(
     alloc: Global,
     set: &ProgramSet,
     line: usize,
-    words: &[Word<'_>],
+    words: &[LineWord<'_>],
 ) -> Result<ListLine<T>, LineFault>
     ensures { Reads (λ said. said) result
         (list_line_of T.keyword T.item_of (draft_tree set.now) line words.now) }

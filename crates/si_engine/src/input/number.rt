@@ -3,7 +3,7 @@ ghost use Rattle.std.specs.Prelude.{◌≡◌, pos, option_and_then, IfOk};
 ghost use Rattle.si_engine.specs.Numbers.{with_digit, natural_of, between, max_u64, i64_of};
 ghost use Rattle.si_engine.specs.Numbers.{number_between, u64_of, numbers_of};
 
-use crate::input::line_words::Word;
+use crate::input::line_words::LineWord;
 use prog_tree::Sequence;
 use std::alloc::{AllocError, Global};
 
@@ -65,7 +65,7 @@ pub fn unsigned(word: &[u8]) -> Option<u64>
 }
 
 /// The numbers of words, if all are such.
-pub fn numbers(alloc: Global, words: &[Word<'_>]) -> Result<Option<Sequence<i64>>, AllocError>
+pub fn numbers(alloc: Global, words: &[LineWord<'_>]) -> Result<Option<Sequence<i64>>, AllocError>
     ensures { IfOk result (λ numbers. numbers ≡ numbers_of words.now) }
 {
     let mut numbers = Vec::with_capacity(alloc, words.len())?;

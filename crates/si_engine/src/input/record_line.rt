@@ -6,7 +6,7 @@ ghost use Rattle.si_engine.specs.Records.{is_at, is_gives, outcome_of, record_of
 ghost use Rattle.si_engine.specs.LineFaults.{Reads};
 
 use crate::input::line_fault::LineFault;
-use crate::input::line_words::Word;
+use crate::input::line_words::LineWord;
 use crate::input::lines::cut_around;
 use crate::input::list_item::ListItem;
 use crate::input::names::program_number;
@@ -30,20 +30,20 @@ pub struct RecordWords {
     outcome: RecordOutcome,
 }
 
-fn is_at(word: &Word<'_>) -> bool
+fn is_at(word: &LineWord<'_>) -> bool
     ensures { result ≡ is_at word.now }
 {
     word.is(b"at")
 }
 
-fn is_gives(word: &Word<'_>) -> bool
+fn is_gives(word: &LineWord<'_>) -> bool
     ensures { result ≡ is_gives word.now }
 {
     word.is(b"gives")
 }
 
 // How many words stand before the first `at`.
-fn args_len(words: &[Word<'_>]) -> usize
+fn args_len(words: &[LineWord<'_>]) -> usize
     ensures value { result ≡ prefix_len (λ word. not (is_at word)) words.now }
     ensures within { result ≤ length words.now }
 {
@@ -51,7 +51,7 @@ fn args_len(words: &[Word<'_>]) -> usize
 }
 
 // The outcome, if the words are START gives REPLY*.
-fn read_outcome(alloc: Global, words: &[Word<'_>]) -> Result<Option<RecordOutcome>, AllocError>
+fn read_outcome(alloc: Global, words: &[LineWord<'_>]) -> Result<Option<RecordOutcome>, AllocError>
     ensures { IfOk result (λ found. found ≡ outcome_of words.now) }
 {
     let [start, sign, replies @ ..] = words else {
@@ -70,7 +70,7 @@ fn read_outcome(alloc: Global, words: &[Word<'_>]) -> Result<Option<RecordOutcom
 }
 
 // The words before the first `at`, and those behind it; none if there is no `at`.
-fn cut_at<'w, 'a>(words: &'w [Word<'a>]) -> (&'w [Word<'a>], &'w [Word<'a>])
+fn cut_at<'w, 'a>(words: &'w [LineWord<'a>]) -> (&'w [LineWord<'a>], &'w [LineWord<'a>])
     ensures first { result.0.now ≡ before_first is_at words.now }
     ensures rest { result.1.now ≡ after_first is_at words.now }
 {
@@ -79,7 +79,7 @@ fn cut_at<'w, 'a>(words: &'w [Word<'a>]) -> (&'w [Word<'a>], &'w [Word<'a>])
 }
 
 // The record, if the words are ARG* at START gives REPLY*.
-fn read_record(alloc: Global, words: &[Word<'_>]) -> Result<Option<RecordWords>, AllocError>
+fn read_record(alloc: Global, words: &[LineWord<'_>]) -> Result<Option<RecordWords>, AllocError>
     ensures { IfOk result (λ found. found ≡ record_of words.now) }
 {
     let (args, behind) = cut_at(words);
@@ -98,7 +98,7 @@ fn record_row(
     alloc: Global,
     set: &ProgramSet,
     line: usize,
-    words: &[Word<'_>],
+    words: &[LineWord<'_>],
 ) -> Result<HistoryRow, LineFault>
     ensures { Reads (λ row. row) result (record_row_of (draft_tree set.now) line words.now) }
 {
@@ -134,7 +134,7 @@ impl ListItem for HistoryRow {
         alloc: Global,
         set: &ProgramSet,
         line: usize,
-        words: &[Word<'_>],
+        words: &[LineWord<'_>],
     ) -> Result<Self, LineFault> {
         record_row(alloc, set, line, words)
     }

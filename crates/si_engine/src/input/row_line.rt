@@ -7,7 +7,7 @@ ghost use Rattle.si_engine.specs.RowLines.{is_equals_sign, one_key, two_keys, ro
 ghost use Rattle.si_engine.specs.RowLines.{cell_of_keys, row_line_of, row_fault};
 
 use crate::input::line_fault::LineFault;
-use crate::input::line_words::Word;
+use crate::input::line_words::LineWord;
 use crate::input::names::table_number;
 use crate::input::number::number;
 use prog_check::ProgramSet;
@@ -30,7 +30,7 @@ pub enum Keys {
 // The words of a row, with their numbers.
 #[derive(Drop)]
 pub struct RowWords<'a> {
-    table: Word<'a>,
+    table: LineWord<'a>,
     keys: Keys,
     value: i64,
 }
@@ -42,19 +42,19 @@ fn arity(set: &ProgramSet, table: usize) -> Option<Arity>
     Some(set.draft().tables.get(table)?.arity)
 }
 
-fn is_equals_sign(word: &Word<'_>) -> bool
+fn is_equals_sign(word: &LineWord<'_>) -> bool
     ensures { result ≡ is_equals_sign word.now }
 {
     word.is(b"=")
 }
 
-fn one_key(key: &Word<'_>) -> Option<Keys>
+fn one_key(key: &LineWord<'_>) -> Option<Keys>
     ensures { result ≡ one_key key.now }
 {
     Some(Keys::One(number(key.as_bytes())?))
 }
 
-fn two_keys(first: &Word<'_>, second: &Word<'_>) -> Option<Keys>
+fn two_keys(first: &LineWord<'_>, second: &LineWord<'_>) -> Option<Keys>
     ensures { result ≡ two_keys first.now second.now }
 {
     let first = number(first.as_bytes())?;
@@ -63,7 +63,7 @@ fn two_keys(first: &Word<'_>, second: &Word<'_>) -> Option<Keys>
 }
 
 // The row, if the words are TABLE K = V or TABLE K1 K2 = V.
-fn row_words<'a>(words: &[Word<'a>]) -> Option<RowWords<'a>>
+fn row_words<'a>(words: &[LineWord<'a>]) -> Option<RowWords<'a>>
     ensures { result ≡ row_words words.now }
 {
     let (table, keys, sign, value) = match words {
@@ -75,7 +75,7 @@ fn row_words<'a>(words: &[Word<'a>]) -> Option<RowWords<'a>>
         return None;
     }
     Some(RowWords {
-        table: Word::new(table.as_bytes()),
+        table: LineWord::new(table.as_bytes()),
         keys,
         value: number(value.as_bytes())?,
     })
@@ -102,7 +102,7 @@ fn cell_of_keys(arity: Arity, table: usize, keys: Keys) -> Option<Cell>
 
 /// The row that the words behind `row` are, or the line's fault.
 #[tactic(auto, unfolding(crate::specs::RowLines::row_line_of))]
-pub fn row_line(set: &ProgramSet, line: usize, words: &[Word<'_>]) -> Result<RowLine, LineFault>
+pub fn row_line(set: &ProgramSet, line: usize, words: &[LineWord<'_>]) -> Result<RowLine, LineFault>
     ensures { result ≡ row_line_of (draft_tree set.now) line words.now }
 {
     let RowWords { table, keys, value } = row_words(words).ok_or(LineFault::BadLine { line })?;

@@ -12,7 +12,7 @@ ghost use Rattle.sirob.specs.declared.status.Status.TheVariants as status;
 use crate::command_fault::CommandFault;
 use crate::input::read_text;
 use crate::lines::write_lines;
-use crate::sentences::kept::{Kept, Repair};
+use crate::sentences::kept::{Kept, PlannedRepair};
 use crate::status::Status;
 use prog_check::ProgramSet;
 use prog_text::print;
@@ -21,7 +21,11 @@ use si_repair::{materialise, plan, promote};
 use std::alloc::Global;
 
 // The set as its plan repairs it.
-fn repair_set(alloc: Global, promoting: bool, set: &ProgramSet) -> Result<Repair, CommandFault>
+fn repair_set(
+    alloc: Global,
+    promoting: bool,
+    set: &ProgramSet,
+) -> Result<PlannedRepair, CommandFault>
     ensures ok { IfOk result (λ repair.
         IsRepaired promoting (draft_tree set.now) (draft_tree repair.repaired)) }
     ensures err { IfErr result (λ fault. is_memory fault ≡ false
@@ -33,7 +37,7 @@ fn repair_set(alloc: Global, promoting: bool, set: &ProgramSet) -> Result<Repair
     } else {
         materialise(alloc, set, &plan)?
     };
-    Ok(Repair { plan, repaired })
+    Ok(PlannedRepair { plan, repaired })
 }
 
 // The canonical text of the set that an input spells, repaired. The repair is kept.
@@ -41,7 +45,7 @@ fn repaired_text(
     alloc: Global,
     promoting: bool,
     input: &[u8],
-    kept: &mut Option<Repair>,
+    kept: &mut Option<PlannedRepair>,
 ) -> Result<Vec<u8>, CommandFault>
     requires { length input.now ≤ input_limit }
     ensures ok { IfOk result

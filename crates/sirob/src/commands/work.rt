@@ -13,7 +13,7 @@ ghost use Rattle.sirob.specs.declared.command_line.Mode.TheVariants as mode;
 use crate::command_fault::CommandFault;
 use crate::commands::robust::{Verified, assess};
 use crate::lines::write_lines;
-use crate::progress::{Progress, Watched};
+use crate::progress::{JobProgress, Watched};
 use crate::sentences::kept::Kept;
 use crate::status::Status;
 use history_book::Book;
@@ -90,7 +90,7 @@ fn work_verified<R: AllocGlobal + Eprint + Clock + Watched + Threads + Wait + Sy
 {
     let alloc = rt.alloc();
     let ItemList { rows, items: jobs } = jobs_in(alloc, set.set(), part)?;
-    let gate = Progress::new(rt, jobs.len());
+    let gate = JobProgress::new(rt, jobs.len());
     let Worked { outcomes, book } = do_jobs(
         rt,
         alloc,

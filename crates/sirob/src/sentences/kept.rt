@@ -9,7 +9,7 @@ use std::alloc::Global;
 
 /// A set as its plan repairs it, and that plan.
 #[derive(Drop)]
-pub struct Repair {
+pub struct PlannedRepair {
     pub plan: Plan,
     pub repaired: ProgramSet,
 }
@@ -21,7 +21,7 @@ pub struct Kept {
     /// What an analysis found of the set, where one was made.
     pub found: Option<Finding>,
     /// The repair of the set, where one was made.
-    pub repair: Option<Repair>,
+    pub repair: Option<PlannedRepair>,
     /// The cycle in which the commits of a run or an audit end, in words; none where they have a
     /// serial order, and where memory ran out for the words.
     pub cycle: Option<String>,

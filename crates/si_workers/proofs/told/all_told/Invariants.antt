@@ -1,6 +1,6 @@
 use Rattle.std.proofs.Common.{◌≡◌, ◌++◌, map, flat_map}
 use Rattle.si_workers.specs.Gathered.{AreToldMore}
-use Rattle.si_workers.specs.declared.told.Told.TheVariants.{Nothing}
+use Rattle.si_workers.specs.declared.told.ToldOfJob.TheVariants.{Nothing}
 use Rattle.si_workers.proofs.told.all_told.Given as goal
 
 abbrev pub invariant-loop-one : goal.invariant-loop-one

@@ -1,5 +1,5 @@
 use Rattle.std.proofs.Common.{◌≡◌, map, take}
-use Rattle.si_workers.specs.declared.told.Told.TheVariants.{Nothing}
+use Rattle.si_workers.specs.declared.told.ToldOfJob.TheVariants.{Nothing}
 use Rattle.si_workers.proofs.told.nothing_told.Given as goal
 
 abbrev pub invariant-loop-job : goal.invariant-loop-job

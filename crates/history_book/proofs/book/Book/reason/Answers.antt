@@ -7,7 +7,7 @@ use Rattle.history_book.specs.Reasons.{told_reason, IsReason}
 use Rattle.history_book.specs.TraceView.{TraceView}
 use Rattle.history_book.specs.Traces.{trace_in}
 use Rattle.history_book.specs.View.{history_of, traces_in, depends_in}
-use Rattle.history_book.specs.declared.orders.reason.Reason.{Reason}
+use Rattle.history_book.specs.declared.orders.reason.OrderReason.{OrderReason}
 use Rattle.history_book.proofs.ReasonBooks.{none_told, none_outside}
 use Rattle.history_book.proofs.ReasonLaws.{told_is_reason}
 use Rattle.history_book.proofs.book.Book.reason.Goals as goal
@@ -44,11 +44,11 @@ returns-clause-some c =
     let v = c.args.self.now in
     let i = c.args.first in
     let j = c.args.second in
-    subst (λ (o : Option Reason). IfSome o (IsReason (traces_in v) i j)) (sym (returns-clause-told c)) (told_is_reason (traces_in v) i j)
+    subst (λ (o : Option OrderReason). IfSome o (IsReason (traces_in v) i j)) (sym (returns-clause-told c)) (told_is_reason (traces_in v) i j)
 
 pub returns-clause-none : goal.returns-clause-none
 returns-clause-none c =
     let v = c.args.self.now in
     let i = c.args.first in
     let j = c.args.second in
-    subst (λ (o : Option Reason). IfNone o (depends_in v i j ≡ false)) (sym (returns-clause-told c)) (none_told (draft_tree v.set) v.opening (history_of v.rows) i j)
+    subst (λ (o : Option OrderReason). IfNone o (depends_in v i j ≡ false)) (sym (returns-clause-told c)) (none_told (draft_tree v.set) v.opening (history_of v.rows) i j)

@@ -6,7 +6,7 @@ use Rattle.prog_tree.specs.Table.{cell_cmp, Cells, cells_of, TableState, row_hel
 use Rattle.prog_tree.specs.Corners.{is_between}
 use Rattle.version_store.specs.Reading.{AllRise}
 use Rattle.version_store.specs.Regions.{seen_in, seen_between, IsSeen}
-use Rattle.version_store.specs.StandsFor.{Chain}
+use Rattle.version_store.specs.StandsFor.{VersionChain}
 use Rattle.version_store.proofs.FoundLaws.{IsLeft, between_left, first_rises, rest_left, gains_first, gains_more, gained, found_rows}
 use Rattle.version_store.proofs.ShareLaws.{none_seen}
 use Rattle.version_store.proofs.chains.Chains.block_of.Goals as goal
@@ -18,9 +18,9 @@ pub loop-cell-init : goal.loop-cell-init
 loop-cell-init c =
     let chains = c.self.inside.chains.entries in
     let ends = c.new.ensures in
-    let between : c.into_iter-cell-iterator.result ≡ filter (λ (e : Cell × Chain). is_between c.in-Some.low c.in-Some.high e.0) chains =
+    let between : c.into_iter-cell-iterator.result ≡ filter (λ (e : Cell × VersionChain). is_between c.in-Some.low c.in-Some.high e.0) chains =
     c.into_iter-cell-iterator.ensures.into_iter_gives ∙ c.range-cell-items.ensures.between ends.exhausted
-    ∙ (λ i. filter (λ (e : Cell × Chain). is_between (ends.start i) (ends.end i) e.0) chains) in
+    ∙ (λ i. filter (λ (e : Cell × VersionChain). is_between (ends.start i) (ends.end i) e.0) chains) in
     rw (← c.self.view_is, c.in_ok-rows.ensures.items)
     (record {
       says = λ rise n since below. gains_first c.args.region.now n c.in-Some.low c.in-Some.high chains c.into_iter-cell-iterator.result c.range-cell-items.ensures.ordered rise c.in-Some.ensures between;
@@ -51,7 +51,7 @@ loop-cell-preserved c =
 
 pub returns-clause-says : goal.returns-clause-says
 returns-clause-says c = λ rise n above since below.
-    let sorted = subst (λ (es : Cells Chain). IsStrictlySortedBy cell_cmp (cells_of es)) c.self.view_is c.range-cell-items.ensures.ordered in
+    let sorted = subst (λ (es : Cells VersionChain). IsStrictlySortedBy cell_cmp (cells_of es)) c.self.view_is c.range-cell-items.ensures.ordered in
     let since_walked : c.loop-cell.since ≤ n = omega (arith, since, c.in_ok-block-2.ensures.since) in
     let below_walked : n < c.loop-cell.till = omega (arith, below, c.in_ok-block-2.ensures.till) in
     subst (λ (m : TableState). IsSeen (seen_in c.args.region.now n) c.args.self.now m) (sym c.in_ok-block-2.ensures.rows)

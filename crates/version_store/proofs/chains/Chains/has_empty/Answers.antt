@@ -1,12 +1,12 @@
 use Rattle.std.proofs.Common.{◌≡◌, ◌∙◌, true, false, ap, subst, sym}
 use Rattle.std.specs.Prelude.{Option, unwrap_or}
-use Rattle.version_store.specs.StandsFor.{Chain, no_chain, HoldsSome}
+use Rattle.version_store.specs.StandsFor.{VersionChain, no_chain, HoldsSome}
 use Rattle.version_store.proofs.HoldLaws.{hold_beside}
 use Rattle.version_store.proofs.chains.Chains.has_empty.Goals as goal
 
 pub returns-in-Some-clause-empty : goal.returns-in-Some-clause-empty
 returns-in-Some-clause-empty c =
-    rw (← c.self.view_is) (λ empty. ap (λ (o : Option Chain). unwrap_or o no_chain) (sym c.in-Some.ensures.value) ∙ c.is_empty.ensures.0 empty)
+    rw (← c.self.view_is) (λ empty. ap (λ (o : Option VersionChain). unwrap_or o no_chain) (sym c.in-Some.ensures.value) ∙ c.is_empty.ensures.0 empty)
 
 pub returns-in-Some-clause-left : goal.returns-in-Some-clause-left
 returns-in-Some-clause-left c =

@@ -5,7 +5,7 @@ use Rattle.prog_tree.specs.declared.cell.Cell.{Cell}
 use Rattle.prog_tree.specs.Table.{cell_cmp, Cells, cells_of, TableState, row_held}
 use Rattle.prog_tree.specs.Corners.{is_between}
 use Rattle.version_store.specs.Regions.{seen_in, seen_between, IsSeen}
-use Rattle.version_store.specs.StandsFor.{Chain}
+use Rattle.version_store.specs.StandsFor.{VersionChain}
 use Rattle.version_store.proofs.FoundLaws.{gains_first, gains_more, gained, gained_nothing, found_rows}
 use Rattle.version_store.proofs.chains.Chains.scan.Goals as goal
 
@@ -18,9 +18,9 @@ pub loop-cell-init : goal.loop-cell-init
 loop-cell-init c =
     let chains = c.self.inside.chains.entries in
     let ends = c.new.ensures in
-    let between : c.into_iter-cell-iterator.result ≡ filter (λ (e : Cell × Chain). is_between c.in-Some.low c.in-Some.high e.0) chains =
+    let between : c.into_iter-cell-iterator.result ≡ filter (λ (e : Cell × VersionChain). is_between c.in-Some.low c.in-Some.high e.0) chains =
     c.into_iter-cell-iterator.ensures.into_iter_gives ∙ c.range-cell-items.ensures.between ends.exhausted
-    ∙ (λ i. filter (λ (e : Cell × Chain). is_between (ends.start i) (ends.end i) e.0) chains) in
+    ∙ (λ i. filter (λ (e : Cell × VersionChain). is_between (ends.start i) (ends.end i) e.0) chains) in
     rw (← c.self.view_is, c.in_ok-rows.ensures.items)
     (λ rise. gains_first c.args.region.now c.args.start c.in-Some.low c.in-Some.high chains c.into_iter-cell-iterator.result c.range-cell-items.ensures.ordered rise c.in-Some.ensures between)
 
@@ -32,6 +32,6 @@ loop-cell-preserved c = λ rise.
 
 pub returns : goal.returns
 returns c = λ rise.
-    let sorted = subst (λ (es : Cells Chain). IsStrictlySortedBy cell_cmp (cells_of es)) c.self.view_is c.range-cell-items.ensures.ordered in
+    let sorted = subst (λ (es : Cells VersionChain). IsStrictlySortedBy cell_cmp (cells_of es)) c.self.view_is c.range-cell-items.ensures.ordered in
     subst (λ (m : TableState). IsSeen (seen_in c.args.region.now c.args.start) c.args.self.now m) (sym (c.from_vec-2.ensures ∙ c.shrink_to_fit.ensures.items))
     (gained c.args.region.now c.args.start c.args.self.now c.loop-cell.cell-iterator c.loop-cell.rows.items sorted c.in-None.ensures.steps.0 (c.loop-cell.invariant rise))

@@ -1,6 +1,6 @@
 use Rattle.std.proofs.Common.{◌∙◌, [], refl, subst, sym}
 use Rattle.prog_tree.specs.Table.{Cells}
-use Rattle.version_store.specs.StandsFor.{Chain}
+use Rattle.version_store.specs.StandsFor.{VersionChain}
 use Rattle.version_store.specs.Regions.{seen_anywhere}
 use Rattle.version_store.proofs.ScanLaws.{Gathers, gathers_all, gathers_more, gathered}
 use Rattle.version_store.proofs.chains.Chains.state.Goals as goal
@@ -9,7 +9,7 @@ pub loop-cell-init : goal.loop-cell-init
 loop-cell-init c = λ rise.
     let all = c.into_iter-cell-iterator.ensures.into_iter_gives ∙ c.iter-cell-items.ensures.rest in
     rw (← c.self.view_is, c.new-rows.ensures)
-    (subst (λ (es : Cells Chain). Gathers (seen_anywhere c.args.start) c.self.inside.chains.entries es []) (sym all) (gathers_all (seen_anywhere c.args.start) c.self.inside.chains.entries c.iter-cell-items.ensures.ordered))
+    (subst (λ (es : Cells VersionChain). Gathers (seen_anywhere c.args.start) c.self.inside.chains.entries es []) (sym all) (gathers_all (seen_anywhere c.args.start) c.self.inside.chains.entries c.iter-cell-items.ensures.ordered))
 
 pub loop-cell-preserved : goal.loop-cell-preserved
 loop-cell-preserved c = λ rise.

@@ -2,7 +2,7 @@ use Rattle.std.proofs.Common.{◌∙◌, ◌++◌, ap, refl, subst, sym}
 use Rattle.std.specs.List.Sorted.{IsStrictlySortedBy}
 use Rattle.prog_tree.specs.Table.{cell_cmp, Cells, cells_of, TableState, row_held}
 use Rattle.version_store.specs.Regions.{seen_anywhere, IsSeen}
-use Rattle.version_store.specs.StandsFor.{Chain}
+use Rattle.version_store.specs.StandsFor.{VersionChain}
 use Rattle.version_store.proofs.FoundLaws.{gains_all, gains_more, gained_of, found_rows}
 use Rattle.version_store.proofs.chains.Chains.state_rows.Goals as goal
 
@@ -20,6 +20,6 @@ loop-cell-preserved c = λ rise.
 
 pub returns : goal.returns
 returns c = λ rise.
-    let sorted = subst (λ (es : Cells Chain). IsStrictlySortedBy cell_cmp (cells_of es)) c.self.view_is c.iter-cell-items.ensures.ordered in
+    let sorted = subst (λ (es : Cells VersionChain). IsStrictlySortedBy cell_cmp (cells_of es)) c.self.view_is c.iter-cell-items.ensures.ordered in
     subst (λ (m : TableState). IsSeen (seen_anywhere c.args.start) c.args.self.now m) (sym c.from_vec.ensures)
     (gained_of (seen_anywhere c.args.start) (seen_anywhere c.args.start) (λ cell. refl) c.args.self.now c.loop-cell.cell-iterator c.loop-cell.rows.items sorted c.in-None.ensures.steps.0 (c.loop-cell.invariant rise))

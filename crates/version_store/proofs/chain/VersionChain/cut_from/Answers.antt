@@ -1,7 +1,7 @@
 use Rattle.std.proofs.Common.{◌≡◌, ℕ, nat_lt, rules}
 use Rattle.std.specs.Prelude.{filter}
 use Rattle.std.proofs.lemmas.Fn.{filter_same}
-use Rattle.version_store.proofs.chain.Chain.cut_from.Goals as goal
+use Rattle.version_store.proofs.chain.VersionChain.cut_from.Goals as goal
 
 pub returns : goal.returns
 returns c =

@@ -2,7 +2,7 @@ use Rattle.std.proofs.Common.{◌≡◌, ◌∙◌, ℕ, List, leb, drop, ap}
 use Rattle.std.specs.List.{prefix_len}
 use Rattle.version_store.specs.Trimming.{marks_kept}
 use Rattle.version_store.proofs.TrimLaws.{marks_left}
-use Rattle.version_store.proofs.chain.Chain.trim.Goals as goal
+use Rattle.version_store.proofs.chain.VersionChain.trim.Goals as goal
 
 pub returns-clause-chain : goal.returns-clause-chain
 returns-clause-chain c =

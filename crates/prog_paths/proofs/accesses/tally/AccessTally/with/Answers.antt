@@ -1,7 +1,7 @@
 use Rattle.std.proofs.Common.{◌∙◌, arith}
 use Rattle.prog_check.specs.declared.path.Kind.TheVariants.{Reads, Writes, Adds, Keeps}
 use Rattle.prog_paths.proofs.Counted.{tally-more, tally-look}
-use Rattle.prog_paths.proofs.accesses.tally.Tally.with.Goals as goal
+use Rattle.prog_paths.proofs.accesses.tally.AccessTally.with.Goals as goal
 
 pub returns-in-Reads : goal.returns-in-Reads
 returns-in-Reads c = λ table places p e f behind h.
