@@ -86,7 +86,7 @@ impl<'a, J: Naming> LoggedBook<'a, J> {
         let longer = self
             .front
             .with_state::<StateAt<'_, 'a>, Known>(&self.head, &newest);
-        if let Some(front) = longer {
+        if let Ok(front) = longer {
             self.front = front;
         }
     }

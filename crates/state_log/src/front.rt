@@ -1,7 +1,7 @@
 //! Beginnings of the list that were seen.
 ghost use Rattle.std.specs.Prelude.{◌≡◌, ◌↔◌, ◌<◌, ◌^◌, ◌++◌, ◌∷◌, [], length, slice_get};
-ghost use Rattle.std.specs.Prelude.{IfSome, IsSome, IsTrue};
-ghost use Rattle.state_log.specs.Rules.{head_of};
+ghost use Rattle.std.specs.Prelude.{IfErr, IfOk, IsSome, IsTrue};
+ghost use Rattle.state_log.specs.Rules.{IsLonger, head_of};
 
 pub use crate::law::Tells;
 use crate::law::{Add, Law, Nothing};
@@ -116,10 +116,15 @@ impl<J: Naming> Front<J> {
     }
 
     /// All that was seen, with the state that a value tells behind it, which is added to the list.
-    /// None where the list is longer than what was seen.
-    pub fn with_state<X, M: Tells<X>>(&self, head: &Head<J>, about: &X) -> Option<Front<J>>
+    /// Where the list is longer than what was seen, nothing is added: the error is what it has now.
+    pub fn with_state<X, M: Tells<X>>(
+        &self,
+        head: &Head<J>,
+        about: &X,
+    ) -> Result<Front<J>, Front<J>>
         requires room { length self.now < 2 ^ 62 }
-        ensures { IfSome result (λ front. front ≡ self.now ++ M.state about.now ∷ []) }
+        ensures ok { IfOk result (λ front. front ≡ self.now ++ M.state about.now ∷ []) }
+        ensures err { IfErr result (IsLonger self.now) }
     {
         let len = self.len;
         let mut seen = self.seen.again();
@@ -129,9 +134,13 @@ impl<J: Naming> Front<J> {
             .word
             .compare_exchange::<Add<M>, Nothing>(len, len + 1, &mut seen, &mut offer, &mut pen);
         if found != len {
-            return None;
+            return Err(Front {
+                len: found,
+                seen,
+                of: PhantomData,
+            });
         }
-        Some(Front {
+        Ok(Front {
             len: len + 1,
             seen,
             of: PhantomData,

@@ -23,10 +23,12 @@ fn check_added<J: Naming>(rt: &impl Abort, opened: Opened, rows: &Rows)
     let (head, none) = opened.named::<J>();
     let one = none
         .with_state::<Rows, Themselves>(&head, rows)
+        .ok()
         .expect(rt, "a state");
     assert!(rt; none.len() == 0 && one.len() == 1);
     assert!(rt; one.agrees_at(&one.again(), 0) && !one.agrees_at(&none, 0));
-    assert!(rt; none.with_state::<Rows, Themselves>(&head, rows).is_none());
+    let longer = none.with_state::<Rows, Themselves>(&head, rows).err();
+    assert!(rt; longer.is_some_and(|front| front.len() == 1 && front.agrees_at(&one, 0)));
 }
 
 #[test]
