@@ -143,8 +143,8 @@ fn shown_answer(alloc: Global, answer: Result<Next, AnswerFault>) -> Result<Stri
     }
 }
 
-/// The answer that a word gives: these rows, the same as looks share them, that a cell holds
-/// nothing, or the number that it holds.
+/// The answer that a word gives: these rows, that a cell holds nothing, or the number that it
+/// holds.
 fn answered(
     alloc: Global,
     run: &mut Run<'_>,
@@ -155,10 +155,6 @@ fn answered(
         "rows" => {
             let rows = Sequence::from_slice(alloc, rows)?;
             Ok(Some(run.answer_scan(rows)))
-        }
-        "shared" => {
-            let rows = RowPieces::from_list(Sequence::from_slice(alloc, rows)?)?;
-            Ok(Some(run.answer_shared(rows)))
         }
         "none" => Ok(Some(run.answer_get(None))),
         _ => match word.parse::<i64>() {

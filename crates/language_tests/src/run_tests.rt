@@ -75,7 +75,7 @@ none: not asked
 rows: Did(Counted(Region { table: 0, first_low: 7, first_high: 7, second_low: 1, second_high: 3 }, 2))
 look: [Cell { table: 0, first: 7, second: 1 }, Cell { table: 0, first: 7, second: 2 }] and 1 others
 advance: Scan(Region { table: 0, first_low: 7, first_high: 7, second_low: 1, second_high: 3 })
-shared: Did(Summed(Region { table: 0, first_low: 7, first_high: 7, second_low: 1, second_high: 3 }, 9))
+rows: Did(Summed(Region { table: 0, first_low: 7, first_high: 7, second_low: 1, second_high: 3 }, 9))
 advance: Done(Ready)
 advance: Done(Ready)
 state: 4 2 [2, 9] Some(Ready)",
@@ -96,7 +96,6 @@ advance: Did(Put(Cell { table: 0, first: 7, second: 2 }, 5))
 advance: Did(Removed(Cell { table: 0, first: 7, second: 1 }))
 advance: Scan(Region { table: 0, first_low: 7, first_high: 7, second_low: 1, second_high: 3 })
 rows: bad rows
-shared: bad rows
 advance: Scan(Region { table: 0, first_low: 7, first_high: 7, second_low: 1, second_high: 3 })
 state: 2 0 [] None",
 };

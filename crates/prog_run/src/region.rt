@@ -43,18 +43,6 @@ pub fn are_in(region: &Region, rows: &[(Cell, i64)]) -> bool
     rows.iter().all(|(cell, _)| region.contains(cell))
 }
 
-/// The same of rows in pieces.
-pub fn all_in(region: &Region, rows: &RowPieces) -> bool
-    ensures { result ≡ list_all (λ row. is_in region.now row.0) rows.now }
-{
-    for piece in rows.pieces() {
-        if !are_in(region, piece.rows()) {
-            return false;
-        }
-    }
-    true
-}
-
 /// The rows that the last look found, where it was at just this region and left no cells out.
 pub fn found_last<'l>(looks: &'l [Look], region: &Region) -> Option<&'l RowPieces>
     ensures last { IsFoundLast looks.now region.now (option_copied result) }

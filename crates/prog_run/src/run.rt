@@ -13,7 +13,7 @@ use crate::block::OpenBlock;
 use crate::cursor::Cursor;
 use crate::fault::{AnswerFault, RunFault};
 use crate::next::Next;
-use crate::region::{all_in, are_in, found_last};
+use crate::region::{are_in, found_last};
 use crate::statement::answer_cell;
 use crate::task::Asked;
 use prog_check::ProgramSet;
@@ -184,20 +184,6 @@ impl<'a> Run<'a> {
         Ok(self.answer_rows(rows)?)
     }
 
-    /// Answers as `answer_scan` does, with rows that looks share.
-    pub fn answer_shared(&mut self, shared: RowPieces) -> Result<Next, AnswerFault>
-        ensures refused { IsRefusedBy (scan_fault (asked_region self.old.asked) shared) result }
-        ensures answered { IfOk result (λ next. IsRowsAnswered shared next self.old self.new) }
-        ensures true_run { IsTrueRun self.new }
-        ensures same { SameBegin self.old self.new }
-        ensures err { OnErr result (self.new ≡ self.old) }
-    {
-        if let Some(fault) = self.shared_fault(&shared) {
-            return Err(fault);
-        }
-        Ok(self.answer_rows(shared)?)
-    }
-
     // The region whose rows it asks for, if it does.
     fn asked_region(&self) -> Option<Region>
         ensures region { result ≡ asked_region self.now.asked }
@@ -216,20 +202,6 @@ impl<'a> Run<'a> {
             return Some(AnswerFault::NotAsked);
         };
         if are_in(&region, rows) {
-            return None;
-        }
-        Some(AnswerFault::BadRows)
-    }
-
-    // What is wrong with an answer of rows in pieces.
-    fn shared_fault(&self, rows: &RowPieces) -> Option<AnswerFault>
-        ensures fault { result ≡ scan_fault (asked_region self.now.asked) rows.now }
-        ensures true_run { IsTrueRun self.now }
-    {
-        let Some(region) = self.asked_region() else {
-            return Some(AnswerFault::NotAsked);
-        };
-        if all_in(&region, rows) {
             return None;
         }
         Some(AnswerFault::BadRows)
