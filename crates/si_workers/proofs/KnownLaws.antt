@@ -1,9 +1,12 @@
 -- The states of a book stay what they were.
-use Rattle.std.proofs.Common.{◌≡◌, ◌∙◌, ℕ, ◌≤◌, List, [], ◌∷◌, length, Result, Ok, Err, IfOk, IfErr, ap, subst, sym, arith, length-append}
-use Rattle.std.specs.Prelude.{OnOk}
+use Rattle.std.proofs.Common.{◌≡◌, ◌∙◌, ℕ, ◌≤◌, List, [], ◌∷◌, length, Result, Ok, Err, IfOk, IfErr, refl, ap, subst, sym, arith, length-append}
+use Rattle.std.specs.Prelude.{OnOk, Option, Some, None, IsSome, slice_get}
 use Rattle.std.proofs.lemmas.List.{length-map, map-append}
-use Rattle.prog_tree.specs.Table.{TableState}
+use Rattle.std.proofs.lemmas.List.Elements.{filter_passes}
+use Rattle.prog_tree.specs.declared.cell.Region.{Region}
+use Rattle.prog_tree.specs.Table.{TableState, is_in, rows_in}
 use Rattle.prog_tree.specs.Tree.{draft_tree}
+use Rattle.prog_run.specs.Looks.{AreFound, IsFoundLast, last_look}
 use Rattle.prog_run.specs.View.{RunView}
 use Rattle.history_book.proofs.HistoryLaws.{state_after-push}
 use Rattle.history_book.specs.History.{Instance, state_after}
@@ -16,7 +19,8 @@ use Rattle.history_book.specs.declared.fault.CommitFault.TheVariants as commit
 use Rattle.history_book.specs.declared.fault.EndFault.{EndFault}
 use Rattle.history_book.specs.declared.fault.EndFault.TheVariants as end
 use Rattle.history_book.specs.declared.instances.row.HistoryRow.{HistoryRow}
-use Rattle.si_workers.specs.KnownStates.{AreStatesOf}
+use Rattle.si_workers.specs.HandedIn.{AreRowsOf}
+use Rattle.si_workers.specs.KnownStates.{AreStatesOf, IsFoundIn, IsKnown}
 
 -- the states before a commit stay
 state_in-committed : (v : BookView) (number : ℕ) (row : HistoryRow) (n : ℕ) → n ≤ length v.rows → state_in (committed_in v number row) n ≡ state_in v n
@@ -49,3 +53,19 @@ states-kept-by-end old new t run (Err (end.NoSuchTicket unused)) states ok err a
 states-kept-by-end old new t run (Err (end.NotAborted unused)) states ok err are = subst (λ (v : BookView). AreStatesOf v states) (sym err.0.unchanged) are
 states-kept-by-end old new t run (Err (end.ForeignRun place unused)) states ok err are = subst (λ (v : BookView). AreStatesOf v states) (sym err.0.unchanged) are
 states-kept-by-end old new t run (Err (end.Memory unused)) states ok err are = subst (λ (v : BookView). AreStatesOf v states) (sym err.0.unchanged) are
+
+-- of a run with a look the state is known
+pub still-known :
+    (states : List TableState) (start : ℕ) (run : RunView) (region : Region) (rows : TableState) → IsFoundIn states start run → IsFoundLast run.looks region (Some rows) →
+    IsKnown states start
+still-known states start run region rows is last = is.known (λ none. let never = sym (ap last_look none) ∙ last in absurd (cc))
+
+-- the rows of the last look of a run are of its region
+pub rows-of-last :
+    (states : List TableState) (start : ℕ) (run : RunView) (region : Region) (rows : TableState) → IsFoundIn states start run → IsFoundLast run.looks region (Some rows) →
+    ((m : TableState) → AreFound m run.looks → rows ≡ rows_in region m) → AreRowsOf region rows
+rows-of-last states start run region rows is last held = go (slice_get states start) refl (still-known states start run region rows is last)
+  where
+    go : (o : Option TableState) → slice_get states start ≡ o → IsSome o → AreRowsOf region rows
+    go None at known = absurd (cc)
+    go (Some m) at known = subst (AreRowsOf region) (sym (held m (is.found m at))) (filter_passes (λ row. is_in region row.0) m)

@@ -4,11 +4,11 @@
 //! again when its instance ends, but for the list of all states that the book was in: it only
 //! grows, and what a worker has seen of it stays true.
 
-ghost use Rattle.std.specs.Prelude.{◌≡◌, [], IfErr, IfOk};
+ghost use Rattle.std.specs.Prelude.{◌≡◌, [], IfErr, IfOk, OnOk};
 ghost use Rattle.history_book.specs.TrueBook.{IsTrueBook};
 ghost use Rattle.si_workers.specs.Freshness.{IsOfNoNumber};
 ghost use Rattle.si_workers.specs.HandedIn.{AreRowsOf, IsCommitAnswer, IsEndAnswer};
-ghost use Rattle.si_workers.specs.KnownStates.{AreRowsAt, IsFoundIn, IsHeldAt};
+ghost use Rattle.si_workers.specs.KnownStates.{AreRowsAt, IsFoundIn, IsValueAt, IsKnown};
 
 use history_book::{
     BeginFault, Book, CommitFault, EndFault, NoSuchTicket, Receipt, ScanFault, Ticket, Unused,
@@ -110,7 +110,8 @@ impl<'a, J: Naming> LoggedBook<'a, J> {
         ticket: &Ticket,
         cell: &Cell,
     ) -> Result<Option<i64>, NoSuchTicket>
-        ensures { IfOk result (IsHeldAt front.now ticket.now.start cell.now) }
+        ensures held { IfOk result (IsValueAt front.now ticket.now.start cell.now) }
+        ensures seen { OnOk result (IsKnown front.now ticket.now.start) }
     {
         if !front.agrees_at(&self.front, ticket.start()) {
             return Err(NoSuchTicket);
@@ -127,6 +128,7 @@ impl<'a, J: Naming> LoggedBook<'a, J> {
     ) -> Result<RowPieces, ScanFault>
         ensures rows { IfOk result (AreRowsOf region.now) }
         ensures held { IfOk result (AreRowsAt front.now ticket.now.start region.now) }
+        ensures seen { OnOk result (IsKnown front.now ticket.now.start) }
     {
         if !front.agrees_at(&self.front, ticket.start()) {
             return Err(ScanFault::NoSuchTicket);

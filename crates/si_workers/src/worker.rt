@@ -45,7 +45,7 @@ fn answer_region<'a, D: Desk<'a>>(
 {
     if let Some(rows) = run.rows_again(region) {
         let shared = rows.share()?;
-        return Ok(run.answer_shared(shared)?);
+        return Ok(run.answer_rows(shared)?);
     }
     let rows = desk.scan(job, ticket, region)?;
     Ok(run.answer_rows(rows)?)
