@@ -7,7 +7,7 @@ use Rattle.fault_words.specs.Naming.{program_name, program_params}
 use Rattle.history_book.specs.View.{most_endings}
 use Rattle.history_book.specs.declared.fault.BeginFault.{BeginFault}
 use Rattle.history_book.specs.declared.fault.BeginFault.TheVariants as begin
-use Rattle.si_workers.specs.declared.job.Job.{Job}
+use Rattle.job_list.specs.declared.job.Job.{Job}
 
 abbrev pub plural_ending : (count : ℕ) → List ℕ
 plural_ending count = if count == 1 then [] else codes "s"

@@ -8,10 +8,10 @@ use Rattle.prog_tree.specs.declared.deed.Cause.TheVariants.{Asked, Missing, Pres
 use Rattle.text_places.specs.Listing.{listed}
 use Rattle.fault_words.specs.Naming.{cell_text, program_name, program_params}
 use Rattle.version_store.specs.declared.clash.Clash.{Clash}
-use Rattle.si_workers.specs.declared.job.Job.{Job}
-use Rattle.si_workers.specs.declared.job.JobEnd.{JobEnd}
-use Rattle.si_workers.specs.declared.job.JobEnd.TheVariants.{Committed, Aborted, Clashed, Refused}
-use Rattle.si_workers.specs.declared.job.JobOutcome.{JobOutcome}
+use Rattle.job_list.specs.declared.job.Job.{Job}
+use Rattle.job_list.specs.declared.job.JobEnd.{JobEnd}
+use Rattle.job_list.specs.declared.job.JobEnd.TheVariants.{Committed, Aborted, Clashed, Refused}
+use Rattle.job_list.specs.declared.job.JobOutcome.{JobOutcome}
 use Rattle.run_words.specs.BeginReasons.{begin_reason}
 use Rattle.run_words.specs.Limits.{most_arguments}
 

@@ -6,10 +6,10 @@ use Rattle.text_places.specs.Landmarks.{HasNoJob, IsJobPlace}
 use Rattle.text_places.specs.Places.{line_number}
 use Rattle.text_places.specs.Quotes.{visible}
 use Rattle.prog_tree.specs.Syntax.{DraftTree}
-use Rattle.si_workers.specs.declared.job.JobOutcome.{JobOutcome}
-use Rattle.si_workers.specs.declared.job.Way.{Way}
-use Rattle.si_workers.specs.declared.job.Way.TheVariants.{Aborted, Clashed, Refused}
-use Rattle.si_workers.specs.Ways.{is_in}
+use Rattle.job_list.specs.declared.job.JobOutcome.{JobOutcome}
+use Rattle.job_list.specs.declared.job.Way.{Way}
+use Rattle.job_list.specs.declared.job.Way.TheVariants.{Aborted, Clashed, Refused}
+use Rattle.job_list.specs.Ways.{is_in}
 use Rattle.run_words.specs.declared.in_input.Part.{Part}
 use Rattle.run_words.specs.declared.lost_jobs.ToldJobs.{ToldJobs}
 use Rattle.run_words.specs.EachLine.{TellsEach}

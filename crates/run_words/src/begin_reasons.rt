@@ -7,9 +7,9 @@ ghost use Rattle.run_words.specs.BeginReasons.{begin_reason, full_text, signatur
 use crate::shared_words::counted;
 use fault_words::{program_name, program_params};
 use history_book::{BeginFault, MAX_ENDINGS};
+use job_list::Job;
 use prog_check::ProgramSet;
 use prog_tree::Name;
-use si_workers::Job;
 use std::alloc::{AllocError, Global};
 use text_places::push_listed;
 

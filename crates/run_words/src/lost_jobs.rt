@@ -13,8 +13,8 @@ use crate::in_input::{Part, whole_line_text};
 use crate::job_reasons::job_sentence;
 use crate::job_spots::{FRONT, Spot, spot_of};
 use crate::limits::MAX_TOLD;
+use job_list::{Job, JobOutcome, Way};
 use prog_check::ProgramSet;
-use si_workers::{Job, JobOutcome, Way};
 use std::alloc::{AllocError, Global};
 use text_places::visible_text;
 

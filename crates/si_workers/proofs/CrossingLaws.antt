@@ -32,8 +32,8 @@ use Rattle.state_log.specs.contracts.front.Front as front
 use Rattle.state_log.specs.contracts.front.Head as head
 use Rattle.state_log.proofs.front.Front.TheSendSync as front-crossing
 use Rattle.state_log.proofs.front.Head.TheSendSync as head-crossing
-use Rattle.si_workers.specs.contracts.job.Job as job
-use Rattle.si_workers.proofs.job.Job.TheSendSync as job-crossing
+use Rattle.job_list.specs.contracts.job.Job as job
+use Rattle.job_list.proofs.job.Job.TheSendSync as job-crossing
 use Rattle.si_workers.specs.contracts.logged_book.LoggedBook as logged
 use Rattle.si_workers.specs.contracts.logged_book.LoggedBook.TheInside as logged-inside
 use Rattle.si_workers.specs.contracts.logged_book.SharedLoggedBook as shared

@@ -10,8 +10,8 @@ use Rattle.si_engine.proofs.PlaceLaws.{get-set_other, get-set_same}
 use Rattle.si_workers.specs.KeptAndTold.{Tidings}
 use Rattle.si_workers.specs.Gathered.{outcome_in, with_one, with_all, AreToldMore}
 use Rattle.si_workers.specs.Told.{Report, outcomes_of, only, AreTold}
-use Rattle.si_workers.specs.declared.job.Job.{Job}
-use Rattle.si_workers.specs.declared.job.JobOutcome.{JobOutcome}
+use Rattle.job_list.specs.declared.job.Job.{Job}
+use Rattle.job_list.specs.declared.job.JobOutcome.{JobOutcome}
 use Rattle.si_workers.specs.declared.told.ToldOfJob.{ToldOfJob}
 use Rattle.si_workers.specs.declared.worker.Done.{Done}
 use Rattle.si_workers.specs.declared.told.ToldOfJob.TheVariants.{Nothing, Often}

@@ -3,7 +3,6 @@ pub mod ClashLemmas
 pub mod CountLemmas
 mod CrossingLaws
 mod GatherLaws
-mod JobVectors
 pub mod KeyLemmas
 pub mod KnownLaws
 mod RunLaws

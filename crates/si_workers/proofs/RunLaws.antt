@@ -17,8 +17,8 @@ use Rattle.si_workers.specs.Settled.{AreOutcomesIn, AreToldRight, AreToldWrong, 
 use Rattle.si_workers.specs.Work.{AreDone, AreTaken, IsNamed, IsTrueOver, IsWorkFault, jobs_by}
 use Rattle.si_workers.specs.declared.fault.WorkFault.{WorkFault}
 use Rattle.si_workers.specs.declared.fault.WorkFault.TheVariants.{Workers, TooManyJobs, NoThread, Broken, Memory}
-use Rattle.si_workers.specs.declared.job.Job.{Job}
-use Rattle.si_workers.specs.declared.job.JobOutcome.{JobOutcome}
+use Rattle.job_list.specs.declared.job.Job.{Job}
+use Rattle.job_list.specs.declared.job.JobOutcome.{JobOutcome}
 use Rattle.si_workers.specs.declared.run.Finished.{Finished}
 use Rattle.si_workers.specs.declared.run.Worked.{Worked}
 use Rattle.si_workers.specs.declared.worker.Done.{Done}

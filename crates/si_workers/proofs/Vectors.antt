@@ -15,10 +15,10 @@ use Rattle.si_workers.specs.Calls.{call_of, is_same_call}
 use Rattle.si_workers.specs.KeptAndTold.{Tidings}
 use Rattle.si_workers.specs.Assigned.{assigned}
 use Rattle.si_workers.specs.Outcomes.{AreRightTries, Correspond, IsBroken, IsOfSomeJob, Stands, nearly_full}
-use Rattle.si_workers.specs.declared.job.Job.{Job}
-use Rattle.si_workers.specs.declared.job.JobEnd.{JobEnd}
-use Rattle.si_workers.specs.declared.job.JobEnd.TheVariants as end
-use Rattle.si_workers.specs.declared.job.JobOutcome.{JobOutcome}
+use Rattle.job_list.specs.declared.job.Job.{Job}
+use Rattle.job_list.specs.declared.job.JobEnd.{JobEnd}
+use Rattle.job_list.specs.declared.job.JobEnd.TheVariants as end
+use Rattle.job_list.specs.declared.job.JobOutcome.{JobOutcome}
 
 -- ---- `Look(k)` is program 0 and replies t[k], which is 0 at first; `Set(k, v)` is program 1
 

@@ -1,7 +1,7 @@
 -- What was told of jobs, as reports come in.
 use Rattle.std.specs.Prelude.{◌≡◌, ℕ, List, [], ◌∷◌, Option, Some, None, slice_get}
 use Rattle.std.specs.Option.{option_map}
-use Rattle.si_workers.specs.declared.job.JobOutcome.{JobOutcome}
+use Rattle.job_list.specs.declared.job.JobOutcome.{JobOutcome}
 use Rattle.si_workers.specs.declared.told.ToldOfJob.{ToldOfJob}
 use Rattle.si_workers.specs.declared.told.ToldOfJob.TheVariants.{Nothing, Once, Often}
 use Rattle.si_workers.specs.Told.{Report, outcomes_of}

@@ -4,10 +4,10 @@ use Rattle.prog_tree.specs.declared.deed.Cause.{Cause}
 use Rattle.version_store.specs.declared.clash.Clash.{Clash}
 use Rattle.history_book.specs.declared.instances.row.Ending.{Ending}
 use Rattle.history_book.specs.declared.instances.row.Ending.TheVariants as ending
-use Rattle.si_workers.specs.declared.job.Job.{Job}
-use Rattle.si_workers.specs.declared.job.JobEnd.{JobEnd}
-use Rattle.si_workers.specs.declared.job.JobEnd.TheVariants as end
-use Rattle.si_workers.specs.declared.job.JobOutcome.{JobOutcome}
+use Rattle.job_list.specs.declared.job.Job.{Job}
+use Rattle.job_list.specs.declared.job.JobEnd.{JobEnd}
+use Rattle.job_list.specs.declared.job.JobEnd.TheVariants as end
+use Rattle.job_list.specs.declared.job.JobOutcome.{JobOutcome}
 use Rattle.si_engine.specs.Headline.{Call}
 use Rattle.si_workers.specs.Calls.{call_of, called_in, is_same_call, is_same_cause, is_same_clash}
 

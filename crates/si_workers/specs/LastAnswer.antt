@@ -6,8 +6,8 @@ use Rattle.history_book.specs.declared.fault.CommitFault.TheVariants as commit
 use Rattle.history_book.specs.declared.fault.EndFault.{EndFault}
 use Rattle.si_workers.specs.declared.desk.Answer.{Answer}
 use Rattle.si_workers.specs.declared.desk.Answer.TheVariants as answer
-use Rattle.si_workers.specs.declared.job.JobEnd.{JobEnd}
-use Rattle.si_workers.specs.declared.job.JobEnd.TheVariants as end
+use Rattle.job_list.specs.declared.job.JobEnd.{JobEnd}
+use Rattle.job_list.specs.declared.job.JobEnd.TheVariants as end
 
 -- the last answer behind a begin, a commit and the end of an aborted instance
 abbrev pub after_begin : {X : Type 0} → Result X BeginFault → Option Answer → Option Answer

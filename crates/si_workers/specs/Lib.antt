@@ -5,7 +5,6 @@ pub mod Ended
 pub mod Freshness
 pub mod Gathered
 pub mod HandedIn
-pub mod JobLines
 pub mod KeptAndTold
 pub mod Keys
 pub mod KnownStates
@@ -17,5 +16,4 @@ pub mod Stops
 pub mod Tally
 pub mod Texts
 pub mod Told
-pub mod Ways
 pub mod Work

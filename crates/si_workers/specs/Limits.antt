@@ -8,7 +8,3 @@ most_workers = 8
 -- the most jobs
 abbrev pub most_jobs : ℕ
 most_jobs = 100000
-
--- how often a job may be begun anew at most
-abbrev pub most_retries : ℕ
-most_retries = 4294967295

@@ -10,8 +10,8 @@ use Rattle.si_workers.specs.Told.{AreTold}
 use Rattle.si_workers.specs.Work.{jobs_by, outcome_at}
 use Rattle.si_workers.specs.declared.fault.WorkFault.{WorkFault}
 use Rattle.si_workers.specs.declared.fault.WorkFault.TheVariants.{NoThread, Broken, Memory}
-use Rattle.si_workers.specs.declared.job.Job.{Job}
-use Rattle.si_workers.specs.declared.job.JobOutcome.{JobOutcome}
+use Rattle.job_list.specs.declared.job.Job.{Job}
+use Rattle.job_list.specs.declared.job.JobOutcome.{JobOutcome}
 use Rattle.si_workers.specs.declared.run.Compared.{Compared}
 use Rattle.si_workers.specs.declared.run.Compared.TheVariants as compared
 use Rattle.si_workers.specs.declared.run.Finished.{Finished}

@@ -1,8 +1,8 @@
 -- What workers tell of jobs.
 use Rattle.std.specs.Prelude.{◌≡◌, ℕ, ◌==◌, List, [], ◌∷◌, flat_map, map, Option, Some, None, slice_get, if◌then◌else◌}
 use Rattle.si_workers.specs.KeptAndTold.{Tidings}
-use Rattle.si_workers.specs.declared.job.Job.{Job}
-use Rattle.si_workers.specs.declared.job.JobOutcome.{JobOutcome}
+use Rattle.job_list.specs.declared.job.Job.{Job}
+use Rattle.job_list.specs.declared.job.JobOutcome.{JobOutcome}
 
 -- a job by its number, and its outcome
 abbrev pub Report : Type 0

@@ -13,10 +13,10 @@ use Rattle.si_workers.specs.Told.{Report}
 use Rattle.si_workers.specs.declared.desk.Answer.{Answer}
 use Rattle.si_workers.specs.declared.fault.WorkFault.{WorkFault}
 use Rattle.si_workers.specs.declared.fault.WorkFault.TheVariants as fault
-use Rattle.si_workers.specs.declared.job.Job.{Job}
-use Rattle.si_workers.specs.declared.job.JobEnd.{JobEnd}
-use Rattle.si_workers.specs.declared.job.JobEnd.TheVariants as end
-use Rattle.si_workers.specs.declared.job.JobOutcome.{JobOutcome}
+use Rattle.job_list.specs.declared.job.Job.{Job}
+use Rattle.job_list.specs.declared.job.JobEnd.{JobEnd}
+use Rattle.job_list.specs.declared.job.JobEnd.TheVariants as end
+use Rattle.job_list.specs.declared.job.JobOutcome.{JobOutcome}
 use Rattle.si_workers.specs.declared.stop.Stop.{Stop}
 
 -- ---- a worker

@@ -9,10 +9,10 @@ ghost use Rattle.si_workers.specs.Outcomes.{IsRightRefusal, Stands, nearly_full}
 
 use crate::assignment::Assignment;
 use crate::counts::Counts;
-use crate::job::{Job, JobEnd};
 use crate::keys::CallKey;
 use crate::told::Tiding;
 use history_book::{BeginFault, Book, Ending, HistoryRow, MAX_ENDINGS, same_numbers};
+use job_list::{Job, JobEnd};
 use std::alloc::{AllocError, Global};
 
 // So many endings let a begin be refused as full while all other workers are active.

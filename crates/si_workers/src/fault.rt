@@ -1,7 +1,7 @@
 //! Why work was refused, or did not come to what it has to.
 
-use crate::job::JobOutcome;
 use history_book::{BeginFault, Book};
+use job_list::JobOutcome;
 use prog_tree::Sequence;
 use std::error::Error;
 use std::fmt;

@@ -4,8 +4,8 @@ ghost use Rattle.std.specs.Prelude.{◌≡◌};
 ghost use Rattle.si_workers.specs.Calls.{call_of, called_in};
 ghost use Rattle.si_workers.specs.Keys.{call_at, cause_at, clash_at};
 
-use crate::job::Job;
 use history_book::{Clash, HistoryRow};
+use job_list::Job;
 use prog_tree::{Cause, Cell};
 
 /// A program by its number, and its arguments.

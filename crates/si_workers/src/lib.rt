@@ -1,5 +1,5 @@
-//! Jobs on threads over one book: lists of jobs, the shared book, the workers, and what they tell
-//! compared with the book that they leave.
+//! Jobs on threads over one book: the shared book, the workers, and what they tell compared with
+//! the book that they leave.
 #![tactic(auto)]
 
 mod assignment;
@@ -8,9 +8,6 @@ mod counts;
 mod desk;
 mod fault;
 mod gate;
-mod job;
-mod job_line;
-mod job_list;
 mod keys;
 mod limits;
 mod lock;
@@ -26,8 +23,7 @@ mod worker;
 
 pub use fault::{BeginAfterFault, WorkFault};
 pub use gate::{Gate, Moment, NoGate};
-pub use job::{Job, JobEnd, JobOutcome, Way};
-pub use job_list::{JobList, read_jobs};
+pub use job_list::{Job, JobEnd, JobList, JobOutcome, Way, read_jobs};
 pub use limits::{MAX_JOBS, MAX_WORKERS};
 pub use run::{Finished, Worked, do_jobs, run_jobs};
 pub use shared::SharedBook;

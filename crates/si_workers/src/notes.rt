@@ -5,11 +5,11 @@ ghost use Rattle.si_workers.specs.KeptAndTold.{clashes_of, is_abort, is_clash_of
 ghost use Rattle.si_workers.specs.KeptAndTold.{names, tells_abort};
 ghost use Rattle.si_workers.specs.Keys.{call_at, cause_at, clash_at};
 
-use crate::job::JobEnd;
 use crate::keys::{AbortKey, CallKey, ClashKey};
 use crate::tally::Notes;
 use crate::told::Tiding;
 use history_book::Ending;
+use job_list::JobEnd;
 
 // ---- endings of a book
 

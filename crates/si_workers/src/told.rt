@@ -6,8 +6,8 @@ ghost use Rattle.si_workers.specs.declared.told.ToldOfJob.TheVariants.{Nothing};
 ghost use Rattle.si_workers.specs.Gathered.{outcome_in, with_one, AreToldMore};
 ghost use Rattle.si_workers.specs.Told.{AreTold};
 
-use crate::job::{Job, JobOutcome};
 use crate::worker::Done;
+use job_list::{Job, JobOutcome};
 use std::alloc::{AllocError, Global};
 use std::marker::Model;
 
@@ -44,8 +44,8 @@ pub struct Tiding<'j> {
 
 impl<'j> Model for Tiding<'j> {
     ghost use Rattle.std.specs.Prelude.{Option};
-    ghost use Rattle.si_workers.specs.declared.job.Job.{Job};
-    ghost use Rattle.si_workers.specs.declared.job.JobOutcome.{JobOutcome};
+    ghost use Rattle.job_list.specs.declared.job.Job.{Job};
+    ghost use Rattle.job_list.specs.declared.job.JobOutcome.{JobOutcome};
     ghost use Rattle.si_workers.specs.Gathered.{outcome_in};
 
     ghost Value = { Job × Option JobOutcome };

@@ -11,11 +11,11 @@ ghost use Rattle.si_workers.specs.Work.{AreDrawn, HasCause, HasReplies, IsDrawn,
 ghost use Rattle.si_workers.specs.Work.{TellsTries};
 
 use crate::desk::Desk;
-use crate::job::{Job, JobEnd, JobOutcome};
 use crate::limits::{MAX_JOBS, VACUUM_AFTER};
 use crate::stop::Stop;
 use history_book::{BeginFault, CommitFault, EndFault, Ticket, Unused};
 use job_counter::{Counter, Pass};
+use job_list::{Job, JobEnd, JobOutcome};
 use prog_check::ProgramSet;
 use prog_run::{Next, Run};
 use prog_tree::{Cause, End, Region, Sequence};

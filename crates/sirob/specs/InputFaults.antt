@@ -22,9 +22,9 @@ use Rattle.si_engine.specs.Limits.{input_limit}
 use Rattle.si_engine.specs.Records.{records_of}
 use Rattle.si_engine.specs.Script.{script_of}
 use Rattle.si_workers.specs.declared.fault.WorkFault.{WorkFault}
-use Rattle.si_workers.specs.declared.job.Job.{Job}
+use Rattle.job_list.specs.declared.job.Job.{Job}
 use Rattle.si_workers.specs.Assigned.{assigned}
-use Rattle.si_workers.specs.JobLines.{jobs_of}
+use Rattle.job_list.specs.JobLines.{jobs_of}
 use Rattle.si_workers.specs.Work.{IsWorkFault}
 use Rattle.sirob.specs.declared.command_line.Mode.{Mode}
 use Rattle.sirob.specs.declared.command_line.Mode.TheVariants.{Certify, Verify, Repair, Run, Audit, Work}

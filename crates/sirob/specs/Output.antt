@@ -22,10 +22,10 @@ use Rattle.si_engine.specs.Sources.{ForInput}
 use Rattle.si_engine.specs.Runs.{run_lines, AddsFirst, AddsEnd, AddsRun}
 use Rattle.si_engine.specs.Script.{script_of}
 use Rattle.si_engine.specs.Writing.{WritesOr}
-use Rattle.si_workers.specs.declared.job.Job.{Job}
-use Rattle.si_workers.specs.declared.job.JobOutcome.{JobOutcome}
+use Rattle.job_list.specs.declared.job.Job.{Job}
+use Rattle.job_list.specs.declared.job.JobOutcome.{JobOutcome}
 use Rattle.si_workers.specs.Assigned.{assigned}
-use Rattle.si_workers.specs.JobLines.{jobs_of}
+use Rattle.job_list.specs.JobLines.{jobs_of}
 use Rattle.si_workers.specs.Work.{AreDone}
 use Rattle.sirob.specs.declared.command_line.Mode.{Mode}
 use Rattle.sirob.specs.declared.command_line.Mode.TheVariants.{Check, Certify, Verify, Repair, Run, Audit, Work}

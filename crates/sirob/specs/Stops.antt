@@ -13,7 +13,7 @@ use Rattle.si_engine.specs.declared.input.source.InputFault.TheVariants as input
 use Rattle.si_engine.specs.Limits.{input_limit}
 use Rattle.si_engine.specs.Sources.{ForInput}
 use Rattle.si_engine.specs.Writing.{WritesOr}
-use Rattle.si_workers.specs.JobLines.{jobs_of}
+use Rattle.job_list.specs.JobLines.{jobs_of}
 use Rattle.sirob.specs.declared.command_line.Mode.{Mode}
 use Rattle.sirob.specs.declared.commands.robust.Verified.{Verified}
 use Rattle.sirob.specs.declared.commands.robust.Verified.TheVariants as verified

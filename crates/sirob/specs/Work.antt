@@ -5,10 +5,10 @@ use Rattle.std.specs.List.{concat}
 use Rattle.prog_tree.specs.Tree.{draft_tree}
 use Rattle.history_book.specs.View.{BookView, history_of}
 use Rattle.si_engine.specs.Runs.{end_lines}
-use Rattle.si_workers.specs.declared.job.JobOutcome.{JobOutcome}
-use Rattle.si_workers.specs.declared.job.Way.{Way}
-use Rattle.si_workers.specs.declared.job.Way.TheVariants.{Committed, Aborted, Clashed, Refused}
-use Rattle.si_workers.specs.Ways.{is_in}
+use Rattle.job_list.specs.declared.job.JobOutcome.{JobOutcome}
+use Rattle.job_list.specs.declared.job.Way.{Way}
+use Rattle.job_list.specs.declared.job.Way.TheVariants.{Committed, Aborted, Clashed, Refused}
+use Rattle.job_list.specs.Ways.{is_in}
 
 -- how many jobs ended in a way
 abbrev pub ends_in : Way → List JobOutcome → ℕ

@@ -1,7 +1,7 @@
 //! The command `work`: from the bytes of a list of jobs to what came of them.
 ghost use Rattle.std.specs.Prelude.{◌≡◌, false, Ok, IfOk, IfErr, string_bytes};
 ghost use Rattle.prog_tree.specs.Tree.{draft_tree};
-ghost use Rattle.si_workers.specs.JobLines.{jobs_of};
+ghost use Rattle.job_list.specs.JobLines.{jobs_of};
 ghost use Rattle.sirob.specs.FaultLines.{is_memory};
 ghost use Rattle.sirob.specs.InputFaults.{IsFaultOfPart};
 ghost use Rattle.sirob.specs.Inputs.{IsRobust};
@@ -17,11 +17,12 @@ use crate::progress::{JobProgress, Watched};
 use crate::sentences::kept::Kept;
 use crate::status::Status;
 use history_book::Book;
+use job_list::{Job, JobList, JobOutcome, Way};
 use prog_check::ProgramSet;
 use prog_tree::Sequence;
 use robust_cert::RobustSet;
 use si_engine::{ItemList, Sink, push_rows, read_lines};
-use si_workers::{Job, JobList, JobOutcome, Way, Worked, do_jobs};
+use si_workers::{Worked, do_jobs};
 use std::alloc::{AllocError, Global};
 use std::mem;
 use std::rt::Clock;

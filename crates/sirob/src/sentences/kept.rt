@@ -1,10 +1,10 @@
 //! What a command keeps, to say something of it behind its answer.
 
+use job_list::{Job, JobOutcome};
 use prog_check::ProgramSet;
 use prog_tree::Sequence;
 use run_words::Refusals;
 use si_repair::{Finding, Plan};
-use si_workers::{Job, JobOutcome};
 use std::alloc::Global;
 
 /// A set as its plan repairs it, and that plan.

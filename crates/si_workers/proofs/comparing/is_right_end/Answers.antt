@@ -1,7 +1,7 @@
 use Rattle.std.proofs.Common.{◌↔◌, sym, subst, List}
 use Rattle.std.specs.Prelude.{IsTrue}
 use Rattle.history_book.specs.declared.instances.row.Ending.{Ending}
-use Rattle.si_workers.specs.declared.job.JobEnd.{JobEnd}
+use Rattle.job_list.specs.declared.job.JobEnd.{JobEnd}
 use Rattle.si_engine.specs.Headline.{Call}
 use Rattle.si_workers.specs.Calls.{call_of}
 use Rattle.si_workers.specs.Outcomes.{AreAbortsTold, IsClashKept, IsRightEnd}

@@ -4,7 +4,7 @@ use Rattle.si_workers.specs.Assigned.{assigned_by}
 use Rattle.si_workers.specs.Settled.{IsCompared, IsWorkCompared, lack_memory}
 use Rattle.si_workers.specs.Told.{AreTold}
 use Rattle.si_workers.specs.Work.{jobs_by}
-use Rattle.si_workers.specs.declared.job.Job.{Job}
+use Rattle.job_list.specs.declared.job.Job.{Job}
 use Rattle.si_workers.proofs.run.compare_work.Goals as goal
 
 pub returns : goal.returns

@@ -2,10 +2,10 @@ use Rattle.std.proofs.Common.{◌≡◌, ◌∙◌, List, ℕ, Ok, ap, refl, sub
 use Rattle.std.proofs.lemmas.Result.{err_from_is_err_and}
 use Rattle.prog_tree.specs.declared.program.Draft.{Draft}
 use Rattle.prog_tree.specs.Tree.{draft_tree}
-use Rattle.si_workers.specs.declared.job.Job.{Job}
-use Rattle.si_workers.specs.declared.job.JobOutcome.{JobOutcome}
+use Rattle.job_list.specs.declared.job.Job.{Job}
+use Rattle.job_list.specs.declared.job.JobOutcome.{JobOutcome}
 use Rattle.si_workers.specs.Assigned.{assigned}
-use Rattle.si_workers.specs.JobLines.{jobs_of}
+use Rattle.job_list.specs.JobLines.{jobs_of}
 use Rattle.si_workers.specs.Work.{AreDone, IsWorkFault}
 use Rattle.sirob.specs.Stops.{IsFaultOfJobs}
 use Rattle.sirob.specs.Work.{work_text}

@@ -11,8 +11,11 @@ use Rattle.si_engine.specs.ListLines.{list_line, list_of}
 use Rattle.si_engine.specs.Names.{number_named}
 use Rattle.si_engine.specs.Numbers.{number_between, numbers_of}
 use Rattle.si_engine.specs.LineFaults.{◌>>=◌}
-use Rattle.si_workers.specs.declared.job.Job.{Job}
-use Rattle.si_workers.specs.Limits.{most_retries}
+use Rattle.job_list.specs.declared.job.Job.{Job}
+
+-- how often a job may be begun anew at most
+abbrev pub most_retries : ℕ
+most_retries = 4294967295
 
 -- how often a job may be begun anew
 abbrev pub retries_of : List ℕ → Option ℕ

@@ -2,7 +2,7 @@
 ghost use Rattle.std.specs.Prelude.{◌≡◌};
 ghost use Rattle.prog_tree.specs.Tree.{draft_tree};
 ghost use Rattle.si_engine.specs.LineFaults.{Reads};
-ghost use Rattle.si_workers.specs.JobLines.{retries_of, job_of};
+ghost use Rattle.job_list.specs.JobLines.{retries_of, job_of};
 
 use crate::job::Job;
 use prog_check::ProgramSet;
@@ -41,7 +41,7 @@ fn job(
 
 impl ListItem for Job {
     ghost use Rattle.std.specs.Prelude.{codes};
-    ghost use Rattle.si_workers.specs.JobLines.{job_of};
+    ghost use Rattle.job_list.specs.JobLines.{job_of};
 
     ghost keyword = { codes "job" };
 

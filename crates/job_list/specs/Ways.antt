@@ -1,9 +1,9 @@
 -- The ways in which jobs end.
 use Rattle.std.specs.Prelude.{Bool, true, false}
-use Rattle.si_workers.specs.declared.job.JobEnd.{JobEnd}
-use Rattle.si_workers.specs.declared.job.JobEnd.TheVariants as end
-use Rattle.si_workers.specs.declared.job.Way.{Way}
-use Rattle.si_workers.specs.declared.job.Way.TheVariants.{Committed, Aborted, Clashed, Refused}
+use Rattle.job_list.specs.declared.job.JobEnd.{JobEnd}
+use Rattle.job_list.specs.declared.job.JobEnd.TheVariants as end
+use Rattle.job_list.specs.declared.job.Way.{Way}
+use Rattle.job_list.specs.declared.job.Way.TheVariants.{Committed, Aborted, Clashed, Refused}
 
 -- the job ended in this way
 abbrev pub is_in : Way → JobEnd → Bool

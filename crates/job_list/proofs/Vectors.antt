@@ -7,7 +7,7 @@ use Rattle.si_engine.specs.declared.input.line_fault.LineFault.TheVariants as f
 use Rattle.si_engine.specs.ListLines.{list_line, list_line_of}
 use Rattle.si_engine.specs.RowLines.{row_line_of}
 use Rattle.si_engine.specs.Sayings.{sayings_from}
-use Rattle.si_workers.specs.JobLines.{retries_of, job_line, job_of, jobs_of}
+use Rattle.job_list.specs.JobLines.{retries_of, job_line, job_of, jobs_of}
 
 most_retries : retries_of (codes "4294967295") ≡ Some 4294967295
 most_retries = refl

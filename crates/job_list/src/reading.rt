@@ -3,7 +3,7 @@ ghost use Rattle.std.specs.Prelude.{◌≡◌, ◌≤◌, ◌+◌, ◌↔◌, tr
 ghost use Rattle.prog_tree.specs.Tree.{draft_tree};
 ghost use Rattle.si_engine.specs.Sources.{ForInput};
 ghost use Rattle.si_engine.specs.Sayings.{IsPart, IsPartFault};
-ghost use Rattle.si_workers.specs.JobLines.{jobs_of};
+ghost use Rattle.job_list.specs.JobLines.{jobs_of};
 
 use crate::job::Job;
 use prog_check::ProgramSet;
