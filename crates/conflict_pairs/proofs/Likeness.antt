@@ -13,7 +13,7 @@ use Rattle.prog_paths.specs.declared.accesses.places.Placed.{Placed}
 use Rattle.prog_paths.specs.Meeting.{MayCover}
 use Rattle.prog_paths.specs.Places.{AreAlike, IsAt}
 use Rattle.prog_paths.specs.StaticGraph.{IsAccessOf}
-use Rattle.prog_paths.specs.Questions.{ChangesSingleCells, numbers_of}
+use Rattle.prog_paths.specs.Questions.{Asks, ChangesSingleCells, IsQuestion, between, numbers_of, question_between, two}
 use Rattle.prog_paths.specs.Facts.{question_facts}
 use Rattle.prog_paths.specs.Shown.{ShowEqual, key_pairs, CoversBy}
 use Rattle.conflict_pairs.specs.declared.verdicts.Verdict.{Verdict}
@@ -24,7 +24,7 @@ use Rattle.conflict_pairs.specs.Alike.{CoverAlike, CoversToo, HaveSameCovers, ac
 use Rattle.conflict_pairs.specs.Classes.{AreOneClass}
 use Rattle.conflict_pairs.specs.Sharing.{AreAlikeSides}
 use Rattle.conflict_pairs.proofs.Meaning.{IsRight-from_lists}
-use Rattle.conflict_pairs.proofs.Moving.{single-first, single-second, IsQuestion-asked, IsRight-asked}
+use Rattle.conflict_pairs.proofs.Moving.{asked_between, single_of, IsRight-placed}
 
 -- ---- accesses that are alike
 
@@ -237,36 +237,46 @@ exposed-alike paths q r found kept t u alike h k mine theirs at_mine at_theirs =
     (exposed-shared xs ys (accesses_at paths r.x) (accesses_at paths r.y) first.one second.one first.other second.other found kept t u first.alike second.alike
     (h first.one second.one first.at_one second.at_one) (k first.other second.other first.at_other second.at_other)))
 
--- what is said of a question's accesses is right of it
-pub right-judged : (paths : List Path) (q : Question) → All ChangesSingleCells paths → IsAsked paths q → (v : Verdict) → IsJudgedAt paths q v → IsRight paths (numbers_of q) v
-unfolding asked-first asked-second
-right-judged paths q single asked v h =
-    IsRight-asked paths q asked x y is_x is_y v
-    (IsRight-from_lists x y q.a q.b x.accesses y.accesses asked.first.access asked.second.access (IsQuestion-asked paths q asked x y is_x is_y)
-    (single-first paths q asked x single is_x) (single-second paths q asked y single is_y) refl refl v judged)
+-- what is said of two accesses is right of the one against the other, where their kinds ask something in whatever order
+pub right-between : (paths : List Path) → All ChangesSingleCells paths → (first second : Placed) → IsAt paths first → IsAt paths second
+    → first.access.table ≡ second.access.table → Asks (between first.number second.number) first.access.kind second.access.kind
+    → (v : Verdict) → IsJudgedAt paths (question_between first second) v → IsRight paths (numbers_of (question_between first second)) v
+right-between paths single first second at_first at_second table asks v h =
+    IsRight-placed paths first second x y at_first at_second is_x is_y v
+    (IsRight-from_lists x y first.number second.number x.accesses y.accesses first.access second.access question
+    (single_of paths first x single at_first is_x) (single_of paths second y single at_second is_y) refl refl v judged)
   where
     x : Path
-    x = asked.at_first.0
+    x = at_first.0
 
     y : Path
-    y = asked.at_second.0
+    y = at_second.0
 
-    is_x : x ≡ get_or paths q.x x
-    is_x = sym (ap (λ (r : Question). get_or paths r.x x) asked.is ∙ get_or_from_slice_get paths asked.first.node x x asked.at_first.1)
+    is_x : x ≡ get_or paths first.node x
+    is_x = sym (get_or_from_slice_get paths first.node x x at_first.1)
 
-    is_y : y ≡ get_or paths q.y y
-    is_y = sym (ap (λ (r : Question). get_or paths r.y y) asked.is ∙ get_or_from_slice_get paths asked.second.node y y asked.at_second.1)
+    is_y : y ≡ get_or paths second.node y
+    is_y = sym (get_or_from_slice_get paths second.node y y at_second.1)
 
-    first : IsAccessOf paths q.x q.a asked.first.access
-    first = asked-first paths q asked
+    question : IsQuestion (two x y) (between first.number second.number)
+    question = record {
+      mine = first.access;
+      theirs = second.access;
+      asked = record { at_mine = (x, refl, at_first.2); at_theirs = (y, refl, at_second.2); table = table };
+      asks = asks;
+    }
 
-    second : IsAccessOf paths q.y q.b asked.second.access
-    second = asked-second paths q asked
-
-    judged : IsJudged x.accesses y.accesses (get_or x.accesses q.a asked.first.access) (get_or y.accesses q.b asked.second.access) v
+    judged : IsJudged x.accesses y.accesses (get_or x.accesses first.number first.access) (get_or y.accesses second.number second.access) v
     judged =
-        subst (λ (l : List Access). IsJudged l y.accesses (get_or x.accesses q.a asked.first.access) (get_or y.accesses q.b asked.second.access) v) (ap accesses_in first.1)
-        (subst (λ (l : List Access). IsJudged (accesses_at paths q.x) l (get_or x.accesses q.a asked.first.access) (get_or y.accesses q.b asked.second.access) v) (ap accesses_in second.1)
-        (subst (λ (z : Access). IsJudged (accesses_at paths q.x) (accesses_at paths q.y) z (get_or y.accesses q.b asked.second.access) v) (sym (get_or_from_slice_get x.accesses q.a asked.first.access asked.first.access first.2))
-        (subst (λ (z : Access). IsJudged (accesses_at paths q.x) (accesses_at paths q.y) asked.first.access z v) (sym (get_or_from_slice_get y.accesses q.b asked.second.access asked.second.access second.2))
-        (h asked.first.access asked.second.access first second))))
+        subst (λ (l : List Access). IsJudged l y.accesses (get_or x.accesses first.number first.access) (get_or y.accesses second.number second.access) v) (ap accesses_in at_first.1)
+        (subst (λ (l : List Access). IsJudged (accesses_at paths first.node) l (get_or x.accesses first.number first.access) (get_or y.accesses second.number second.access) v) (ap accesses_in at_second.1)
+        (subst (λ (z : Access). IsJudged (accesses_at paths first.node) (accesses_at paths second.node) z (get_or y.accesses second.number second.access) v) (sym (get_or_from_slice_get x.accesses first.number first.access first.access at_first.2))
+        (subst (λ (z : Access). IsJudged (accesses_at paths first.node) (accesses_at paths second.node) first.access z v) (sym (get_or_from_slice_get y.accesses second.number second.access second.access at_second.2))
+        (h first.access second.access at_first at_second))))
+
+-- what is said of a question's accesses is right of it
+pub right-judged : (paths : List Path) (q : Question) → All ChangesSingleCells paths → IsAsked paths q → (v : Verdict) → IsJudgedAt paths q v → IsRight paths (numbers_of q) v
+right-judged paths q single asked v h =
+    let told = asked_between asked.first.number asked.second.number asked.first asked.second asked.asks_it in
+    subst (λ (r : Question). IsRight paths (numbers_of r) v) (sym asked.is)
+    (right-between paths single asked.first asked.second asked.at_first asked.at_second told.0 told.1 v (subst (λ (r : Question). IsJudgedAt paths r v) asked.is h))

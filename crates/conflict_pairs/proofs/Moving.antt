@@ -26,7 +26,7 @@ write-Asks a b Writes Writes e = inr (inr (refl, refl, inl (omega arith)))
 write-Asks a b _ _ e = absurd (false≢true e)
 
 -- what one placed access asks of another is a question between their paths
-asked_between : (a b : ℕ) (first second : Placed) → asks first second ≡ true → (first.access.table ≡ second.access.table) × Asks (between a b) first.access.kind second.access.kind
+pub asked_between : (a b : ℕ) (first second : Placed) → asks first second ≡ true → (first.access.table ≡ second.access.table) × Asks (between a b) first.access.kind second.access.kind
 asked_between a b first second e =
     let parts = and_parts (first.access.table == second.access.table) _ e in
     (same_table parts.0, by (or_cases (kinds_depend first.access.kind second.access.kind) _ parts.1))

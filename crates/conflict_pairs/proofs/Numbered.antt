@@ -13,10 +13,10 @@ use Rattle.conflict_pairs.specs.declared.verdicts.Verdict.{Verdict}
 use Rattle.conflict_pairs.specs.declared.verdicts.Verdict.TheVariants.{Apart}
 use Rattle.conflict_pairs.specs.Table.{Judged, Table, verdict_at, entry_by, entries_of, IsOnQuestion, IsRightEntry, StandsFor}
 use Rattle.conflict_pairs.specs.Interning.{IsServed}
-use Rattle.conflict_pairs.specs.Alike.{IsAsked, IsLike, IsJudgedAt, IsOnAsked}
-use Rattle.conflict_pairs.proofs.Serving.{served-at, served-within}
+use Rattle.conflict_pairs.specs.Alike.{IsAsked, IsJudgedAt, IsOnAsked}
+use Rattle.conflict_pairs.proofs.Serving.{served-within}
 use Rattle.conflict_pairs.proofs.Zipped.{AllZip-lengths}
-use Rattle.conflict_pairs.proofs.Likeness.{judged-like, right-judged}
+use Rattle.conflict_pairs.proofs.Likeness.{right-judged}
 
 module _ (vs : List Verdict) where
   pub entries-length : (qs : List Question) (ns : List ℕ) → length qs ≡ length ns → length (entries_of vs qs ns) ≡ length qs
@@ -70,29 +70,6 @@ verdicts-right paths single (v ∷ vs) h =
     All-cons (IsOnQuestion paths) v vs
     (record { question = its.question; asked = IsAskedOf-from_asked paths its.question its.asked; right = right-judged paths its.question single its.asked v its.judged })
     (verdicts-right paths single vs (All-tail (IsOnAsked paths) v vs h))
-
--- ---- the verdict of the judged question that stands for another
-
-module _ (paths : List Path) (vs : List Verdict) (ms : List ℕ) (judged : List Question) (answered : AllZip (IsServed (IsJudgedAt paths) vs) judged ms) where
-  through : (q : Question) (n : ℕ) → IsServed (IsLike paths) judged q n → IsServed (IsJudgedAt paths) vs q (get_or ms n 0)
-  through q n h =
-      let its = served-at (IsJudgedAt paths) vs judged ms n h.value (get_or ms n 0) 0 answered h.at refl in
-      record { value = its.value; at = its.at; serves = judged-like paths q h.value its.value h.serves its.serves }
-
-  pub all-through : (qs : List Question) (ns : List ℕ) → AllZip (IsServed (IsLike paths) judged) qs ns → AllZip (IsServed (IsJudgedAt paths) vs) qs (map (λ n. get_or ms n 0) ns)
-  all-through [] [] h = tt
-  all-through [] (n ∷ ns) h = absurd h
-  all-through (q ∷ qs) [] h = absurd h
-  all-through (q ∷ qs) (n ∷ ns) h = (through q n h.0, all-through qs ns h.1)
-
-  pub judged-within : (qs : List Question) (ns : List ℕ) → AllZip (IsServed (IsLike paths) judged) qs ns → All (λ n. n < length ms) ns
-  judged-within [] [] h = All-nil (λ n. n < length ms)
-  judged-within [] (n ∷ ns) h = absurd h
-  judged-within (q ∷ qs) [] h = absurd h
-  judged-within (q ∷ qs) (n ∷ ns) h =
-      All-cons (λ n. n < length ms) n ns
-      (subst (λ (k : ℕ). n < k) (AllZip-lengths (IsServed (IsJudgedAt paths) vs) judged ms answered) (served-within (IsLike paths) judged q n h.0))
-      (judged-within qs ns h.1)
 
 -- ---- right entries
 

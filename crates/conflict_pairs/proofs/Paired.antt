@@ -1,27 +1,22 @@
 -- Questions by the numbers of their accesses among all: what is said of lists of pairs and of their questions.
 use Rattle.std.proofs.Common.{◌≡◌, ℕ, ◌<◌, ◌≤◌, ◌+◌, ◌^◌, List, [], ◌∷◌, ◌++◌, length, map, get_or, sym, subst, ap, ◌∙◌, arith}
-use Rattle.std.specs.Prelude.{All, option_map, slice_get, ◌==◌, ◌&&◌}
-use Rattle.std.specs.List.{AllZip}
+use Rattle.std.specs.Prelude.{All, slice_get, ◌==◌, ◌&&◌}
 use Rattle.std.proofs.lemmas.List.{get_or-map, length-map, map_push}
-use Rattle.std.proofs.lemmas.List.Elements.{All-cons, All-filter, All-head, All-map, All-nil, All-tail}
-use Rattle.std.proofs.lemmas.Option.{get_or_from_slice_get, slice_get-get_or, slice_get-map, slice_get_within}
-use Rattle.rayon.proofs.ListFacts.{AllZip-through}
+use Rattle.std.proofs.lemmas.List.Elements.{All-filter}
+use Rattle.std.proofs.lemmas.Option.{get_or_from_slice_get, slice_get-get_or, slice_get_within}
 use Rattle.prog_check.specs.declared.path.Path.{Path}
 use Rattle.prog_paths.specs.declared.accesses.places.Placed.{Placed}
 use Rattle.prog_paths.specs.declared.accesses.questions.Question.{Question}
-use Rattle.prog_paths.specs.Questions.{question_between, questions_of}
+use Rattle.prog_paths.specs.Questions.{question_between}
 use Rattle.prog_paths.specs.Changers.{changes, changers_of}
 use Rattle.prog_paths.specs.Places.{IsAt, all_from}
 use Rattle.prog_paths.specs.Tally.{of_table}
 use Rattle.prog_paths.proofs.Questions.{all_places_stand}
 use Rattle.conflict_pairs.specs.declared.pairing.PlacePair.{PlacePair}
 use Rattle.conflict_pairs.specs.declared.verdicts.Verdict.{Verdict}
-use Rattle.conflict_pairs.specs.Alike.{AreShown, IsAsked, IsLike}
-use Rattle.conflict_pairs.specs.Interning.{AreInterned, IsServed}
 use Rattle.conflict_pairs.specs.Classes.{starts_from}
-use Rattle.conflict_pairs.specs.Pairing.{IsAskedAt, HasPlaces, StandsAt, asked_at, no_place, place_at, question_at, questions_at}
+use Rattle.conflict_pairs.specs.Pairing.{HasPlaces, StandsAt, no_place, place_at, question_at, questions_at}
 use Rattle.conflict_pairs.specs.Table.{entries_of}
-use Rattle.conflict_pairs.proofs.Collecting.{all_asked}
 use Rattle.conflict_pairs.proofs.Numbered.{entries-length}
 use Rattle.conflict_pairs.proofs.OneClass.{place-stands, starts-length}
 
@@ -32,40 +27,7 @@ module _ {X Y : Type 0} (f : X → Y) where
   pub given-pushed : (old new : List X) (x : X) (y : Y) → new ≡ old ++ x ∷ [] → f x ≡ y → map f new ≡ map f old ++ y ∷ []
   given-pushed old new x y added is = ap (map f) added ∙ map_push f old x ∙ ap (λ (z : Y). map f old ++ z ∷ []) is
 
-  -- what holds of all that they give
-  pub All-given : (P : Y → Type 0) (xs : List X) → All P (map f xs) → All (λ x. P (f x)) xs
-  All-given P [] h = All-nil (λ x. P (f x))
-  All-given P (x ∷ xs) h = All-cons (λ x. P (f x)) x xs (All-head P (f x) (map f xs) h) (All-given P xs (All-tail P (f x) (map f xs) h))
-
--- ---- values for keys, by what both give
-
-module _ {Key Told : Type 0} (f : Key → Told) (Serves : Told → Told → Type 0) where
-  served-given : (values : List Key) (key : Key) (n : ℕ) → IsServed (λ k v. Serves (f k) (f v)) values key n → IsServed Serves (map f values) (f key) n
-  served-given values key n h = record {
-    value = f h.value;
-    at = slice_get-map f values n ∙ ap (option_map f) h.at;
-    serves = h.serves;
-  }
-
-  pub all_served-given : (values keys : List Key) (ns : List ℕ) → AllZip (IsServed (λ k v. Serves (f k) (f v)) values) keys ns → AllZip (IsServed Serves (map f values)) (map f keys) ns
-  all_served-given values = AllZip-through f (IsServed (λ k v. Serves (f k) (f v)) values) (IsServed Serves (map f values)) (served-given values)
-
 -- ---- pairs of accesses of paths
-
--- pairs whose questions are all that the paths ask
-pub asked-pairs : (paths : List Path) (pairs : List PlacePair) → All (HasPlaces (all_from 0 paths)) pairs → questions_at (all_from 0 paths) pairs ≡ questions_of paths → All (IsAskedAt paths) pairs
-asked-pairs paths pairs within all k d lt =
-    let asked = All-given (question_at (all_from 0 paths)) (IsAsked paths) pairs (subst (λ (l : List Question). All (IsAsked paths) l) (sym all) (all_asked paths)) in
-    record { within = within k d lt; asked = asked k d lt }
-
--- pairs that stand for others show their questions
-pub shown-pairs : (paths : List Path) (pairs values : List PlacePair) (numbers : List ℕ) → AreInterned (IsAskedAt paths) (λ p v. IsLike paths (asked_at paths p) (asked_at paths v)) pairs values numbers → AreShown paths (questions_at (all_from 0 paths) pairs) (questions_at (all_from 0 paths) values) numbers
-shown-pairs paths pairs values numbers h = record {
-  sound = All-map (IsAsked paths) (question_at (all_from 0 paths)) values (λ k d lt. (h.sound k d lt).asked);
-  served = all_served-given (question_at (all_from 0 paths)) (IsLike paths) values pairs numbers h.served;
-}
-
--- ---- the numbers of accesses
 
 -- each access of the paths has its number
 pub all-stand : (paths : List Path) → All (StandsAt (starts_from 0 paths) (all_from 0 paths)) (all_from 0 paths)
@@ -78,11 +40,11 @@ all-stand paths k d lt =
       stands = place-stands paths p.node p.number (p.access, at);
     }
 
--- those that change a table too
-pub changers-stand : (starts : List ℕ) (places changers seconds : List Placed) (table : ℕ) → seconds ≡ of_table table changers → ((table : ℕ) → of_table table changers ≡ changers_of table places) → All (StandsAt starts places) places → All (StandsAt starts places) seconds
-changers-stand starts places changers seconds table is all h =
-    subst (λ (l : List Placed). All (StandsAt starts places) l) (sym (is ∙ all table))
-    (All-filter (λ (p : Placed). (p.access.table == table) && changes p.access.kind) (StandsAt starts places) places h)
+-- what holds of each access holds of those that change a table
+pub changers-all : (P : Placed → Type 0) (places changers seconds : List Placed) (table : ℕ) → seconds ≡ of_table table changers → ((table : ℕ) → of_table table changers ≡ changers_of table places) → All P places → All P seconds
+changers-all P places changers seconds table is all h =
+    subst (λ (l : List Placed). All P l) (sym (is ∙ all table))
+    (All-filter (λ (p : Placed). (p.access.table == table) && changes p.access.kind) P places h)
 
 -- an access that is there doesn't depend on what stands for a missing one
 pub place-any : (places : List Placed) (n : ℕ) (d : Placed) → n < length places → get_or places n d ≡ place_at places n

@@ -1,6 +1,7 @@
 -- Values that serve keys, by their numbers.
-use Rattle.std.proofs.Common.{◌≡◌, ℕ, ◌<◌, List, length, sym, subst, get_or}
-use Rattle.std.specs.Prelude.{Some, slice_get}
+use Rattle.std.proofs.Common.{◌≡◌, ℕ, ◌<◌, List, [], ◌∷◌, length, sym, subst, get_or}
+use Rattle.std.specs.Prelude.{All, Some, slice_get}
+use Rattle.std.proofs.lemmas.List.Elements.{All-nil, All-cons}
 use Rattle.std.specs.List.{AllZip}
 use Rattle.std.proofs.lemmas.Option.{get_or_from_slice_get, slice_get_within}
 use Rattle.conflict_pairs.specs.Interning.{IsServed}
@@ -20,3 +21,10 @@ module _ {Key Value : Type 0} (Serves : Key → Value → Type 0) where
       let there = AllZip-at (IsServed Serves values) keys ns k key d h (slice_get_within keys k key at) in
       subst (λ (m : ℕ). IsServed Serves values key m) (sym is)
       (subst (λ (w : Key). IsServed Serves values w (get_or ns k d)) (get_or_from_slice_get keys k key key at) there)
+
+  -- each key's number is that of a value
+  pub all-within : (values : List Value) (keys : List Key) (ns : List ℕ) → AllZip (IsServed Serves values) keys ns → All (λ n. n < length values) ns
+  all-within values [] [] h = All-nil (λ n. n < length values)
+  all-within values [] (n ∷ ns) h = absurd h
+  all-within values (key ∷ keys) [] h = absurd h
+  all-within values (key ∷ keys) (n ∷ ns) h = All-cons (λ n. n < length values) n ns (served-within values key n h.0) (all-within values keys ns h.1)

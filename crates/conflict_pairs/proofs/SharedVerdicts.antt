@@ -5,7 +5,7 @@ use Rattle.std.specs.List.{AllZip}
 use Rattle.std.proofs.lemmas.List.{get_or_push}
 use Rattle.std.proofs.lemmas.List.Elements.{All-push}
 use Rattle.std.proofs.lemmas.Option.{get_or_from_slice_get, slice_get-get_or}
-use Rattle.rayon.proofs.ListFacts.{AllZip-through, AllZip-weaken}
+use Rattle.rayon.proofs.ListFacts.{AllZip-weaken}
 use Rattle.prog_tree.proofs.Elements.{get_left}
 use Rattle.prog_check.specs.declared.path.Path.{Path}
 use Rattle.prog_paths.specs.declared.accesses.places.Placed.{Placed}
@@ -14,7 +14,7 @@ use Rattle.conflict_pairs.specs.declared.pairing.PlacePair.{PlacePair}
 use Rattle.conflict_pairs.specs.declared.verdicts.Verdict.{Verdict}
 use Rattle.conflict_pairs.specs.Alike.{IsJudgedAt, IsOnAsked}
 use Rattle.conflict_pairs.specs.Interning.{IsServed}
-use Rattle.conflict_pairs.specs.Pairing.{IsAskedBetween, question_at, questions_at}
+use Rattle.conflict_pairs.specs.Pairing.{IsAskedBetween, question_at}
 use Rattle.conflict_pairs.specs.Sharing.{IsOnPair}
 use Rattle.conflict_pairs.proofs.Serving.{served-kept, served-within}
 use Rattle.conflict_pairs.proofs.Zipped.{AllZip-more, AllZip-at}
@@ -67,9 +67,3 @@ module _ (paths : List Path) (places : List Placed) where
   kept-there pairs ns vs k h lt =
       let none : PlacePair = record { first = 0; second = 0 } in
       served-within (IsOnPair paths places) vs (get_or pairs k none) (get_or ns k 0) (AllZip-at (IsServed (IsOnPair paths places) vs) pairs ns k none 0 h lt)
-
-  -- the verdicts on pairs are those on their questions
-  pub on-questions : (pairs : List PlacePair) (vs : List Verdict) (ns : List ℕ) → AllZip (IsServed (IsOnPair paths places) vs) pairs ns → AllZip (IsServed (IsJudgedAt paths) vs) (questions_at places pairs) ns
-  on-questions pairs vs ns h =
-      AllZip-through (question_at places) (IsServed (IsOnPair paths places) vs) (IsServed (IsJudgedAt paths) vs)
-      (λ pair n its. record { value = its.value; at = its.at; serves = its.serves }) pairs ns h

@@ -5,12 +5,11 @@ use Rattle.prog_check.specs.declared.path.Access.{Access}
 use Rattle.prog_check.specs.declared.path.Path.{Path}
 use Rattle.prog_paths.specs.declared.accesses.places.Placed.{Placed}
 use Rattle.prog_paths.specs.declared.accesses.questions.Question.{Question}
-use Rattle.prog_paths.specs.Questions.{asks, question_between, questions_of}
+use Rattle.prog_paths.specs.Questions.{asks, question_between}
 use Rattle.prog_paths.specs.Meeting.{MayCover}
 use Rattle.prog_paths.specs.Places.{AreAlike, IsAt}
 use Rattle.prog_paths.specs.StaticGraph.{IsAccessOf}
 use Rattle.conflict_pairs.specs.declared.verdicts.Verdict.{Verdict}
-use Rattle.conflict_pairs.specs.Interning.{AreInterned}
 use Rattle.conflict_pairs.specs.Search.{IsJudged}
 
 -- ---- accesses
@@ -71,15 +70,6 @@ pub record IsLikeAt (paths : List Path) (x a y b : ℕ) : Type 0 where
 -- two questions are alike on both sides
 abbrev pub IsLike : List Path → Question → Question → Type 0
 IsLike paths q r = IsLikeAt paths q.x q.a r.x r.a × IsLikeAt paths q.y q.b r.y r.b
-
--- questions that are judged, and for each of others the number of one that is like it
-abbrev pub AreShown : List Path → List Question → List Question → List ℕ → Type 0
-AreShown paths = AreInterned (IsAsked paths) (IsLike paths)
-
--- all questions of the paths, and which of them are judged
-pub record AreListed (paths : List Path) (qs judged : List Question) (numbers : List ℕ) : Type 0 where
-  pub all : qs ≡ questions_of paths
-  pub shown : AreShown paths qs judged numbers
 
 -- ---- verdicts
 

@@ -5,6 +5,9 @@ pub mod Alike
 pub mod Pairing
 pub mod Sharing
 pub mod Classes
+pub mod ClassPairs
+pub mod Listed
 pub mod Table
+pub mod Classed
 pub mod Law
 pub mod Texts

@@ -1,15 +1,13 @@
 -- Questions by the numbers of their two accesses among all.
-use Rattle.std.specs.Prelude.{◌≡◌, ℕ, ◌+◌, ◌<◌, List, length, map, All, slice_index_or, slice_get, None, Some, false}
+use Rattle.std.specs.Prelude.{◌≡◌, ℕ, ◌+◌, ◌<◌, List, length, map, slice_index_or, slice_get, None, Some, false}
 use Rattle.prog_check.specs.declared.path.Kind.TheVariants.{Reads}
 use Rattle.prog_check.specs.declared.path.Path.{Path}
 use Rattle.prog_check.specs.declared.path.Term.TheVariants.{Param}
 use Rattle.prog_paths.specs.declared.accesses.places.Placed.{Placed}
 use Rattle.prog_paths.specs.declared.accesses.questions.Question.{Question}
-use Rattle.prog_paths.specs.Places.{all_from}
 use Rattle.prog_paths.specs.Questions.{question_between}
-use Rattle.conflict_pairs.specs.declared.listing.Questions.{Questions}
 use Rattle.conflict_pairs.specs.declared.pairing.PlacePair.{PlacePair}
-use Rattle.conflict_pairs.specs.Alike.{AreListed, IsAsked}
+use Rattle.conflict_pairs.specs.Alike.{IsAsked}
 
 -- stands for an access where there is none
 abbrev pub no_place : Placed
@@ -47,22 +45,7 @@ pub record StandsAt (starts : List ℕ) (places : List Placed) (p : Placed) : Ty
   pub has_start : p.node < length starts
   pub stands : slice_get places (slice_index_or starts p.node 0 + p.number) ≡ Some p
 
--- the question of a pair of accesses of the paths
-abbrev pub asked_at : List Path → PlacePair → Question
-asked_at paths pair = question_at (all_from 0 paths) pair
-
 -- a pair of these accesses, of which the first asks something of the second
 pub record IsAskedBetween (paths : List Path) (places : List Placed) (pair : PlacePair) : Type 0 where
   pub within : HasPlaces places pair
   pub asked : IsAsked paths (question_at places pair)
-
--- a pair of accesses of the paths, of which the first asks something of the second
-abbrev pub IsAskedAt : List Path → PlacePair → Type 0
-IsAskedAt paths = IsAskedBetween paths (all_from 0 paths)
-
--- all questions of the paths by the numbers of their accesses, and which of them are judged
-pub record AreQuestionsOf (paths : List Path) (qs : Questions) : Type 0 where
-  pub listed : AreListed paths (questions_at qs.places.items qs.pairs.items)
-      (questions_at qs.places.items qs.judged.items) qs.numbers.items
-  pub within : All (HasPlaces qs.places.items) qs.pairs.items
-  pub asked : All (IsAskedBetween paths qs.places.items) qs.judged.items

@@ -1,39 +1,32 @@
 //! Classes of accesses: what is said of one is said of each other of its class.
-ghost use Rattle.std.specs.Prelude.{◌≡◌, ◌<◌, length, IsTrue, All, IfOk};
+ghost use Rattle.std.specs.Prelude.{◌≡◌, ◌⊎◌, ◌↔◌, ◌<◌, ◌≤◌, ◌^◌, ℕ, [], length, All, IfOk, OnOk, Contains};
+ghost use Rattle.std.specs.Prelude.{set, slice_index_or};
 ghost use Rattle.prog_paths.specs.Places.{all_from};
-ghost use Rattle.conflict_pairs.specs.Alike.{IsLike};
 ghost use Rattle.conflict_pairs.specs.Classes.{HasCoverClass, AreOneClass, AreNumbered};
-ghost use Rattle.conflict_pairs.specs.Classes.{AreLikePlaces};
-ghost use Rattle.conflict_pairs.specs.Pairing.{IsAskedAt, asked_at};
+ghost use Rattle.conflict_pairs.specs.Classes.{AreFirsts, AreLasts, AreNodes, AreClassesOf};
+ghost use Rattle.conflict_pairs.specs.Classes.{starts_from, nodes_at};
 
 use crate::alike::{are_alike, cover_classes_of};
 use crate::hashes::{access_hash, mix};
-use crate::interning::{Interner, intern_all, number_at};
-use crate::pairing::PlacePair;
+use crate::interning::{Interned, Interner, intern_all};
+use crate::limits::MAX_PLACES;
 use prog_check::Path;
-use prog_paths::Placed;
+use prog_paths::{Placed, all_places};
 use std::alloc::{AllocError, Global};
-use std::marker::Model;
 
-/// The classes of all accesses of a list of paths, by their numbers. Two accesses of one class are
-/// alike, and so are the covers of their nodes.
+/// The accesses of a list of paths and their classes. Two accesses of one class are alike, and so
+/// are the covers of their nodes.
 #[derive(Drop)]
-pub struct AccessClasses<'a> {
-    paths: &'a [Path],
-    // For each access among all the number of its class.
-    numbers: Vec<u32>,
-}
-
-impl<'a> Model for AccessClasses<'a> {
-    ghost use Rattle.std.specs.Prelude.{List};
-    ghost use Rattle.prog_check.specs.declared.path.Path.{Path};
-    ghost use Rattle.conflict_pairs.specs.Classes.{AreAccessClasses};
-
-    ghost Value = { List Path };
-
-    ghost view = { λ k. k.paths.now };
-
-    ghost invariant = { λ k. AreAccessClasses k.paths.now k.numbers.items };
+pub struct AccessClasses {
+    /// All accesses, and for each node where its own begin among them.
+    pub places: Vec<Placed>,
+    pub starts: Vec<usize>,
+    /// For each access the number of its class.
+    pub numbers: Vec<u32>,
+    /// For each class its first access and its last, and the nodes that have one.
+    pub firsts: Vec<u32>,
+    pub lasts: Vec<u32>,
+    pub nodes: Vec<Vec<usize>>,
 }
 
 /// Gives one number to the accesses of one class.
@@ -68,62 +61,136 @@ impl<'a> Interner for Numbering<'a> {
     }
 }
 
-/// For each access the number of its class, as far as classes are remembered.
-fn numbers_of(alloc: Global, classes: &[usize], places: &[Placed]) -> Result<Vec<u32>, AllocError>
+/// For each access the number of its class, as far as classes are remembered, and how many numbers
+/// there are.
+fn numbers_of(
+    alloc: Global,
+    classes: &[usize],
+    places: &[Placed],
+) -> Result<(Vec<u32>, usize), AllocError>
     requires { All (HasCoverClass classes.now) places.now }
-    ensures { IfOk result (λ numbers. AreNumbered classes.now places.now numbers.items) }
+    ensures numbered { IfOk result (λ told. AreNumbered classes.now places.now told.0.items) }
+    ensures within { IfOk result (λ told. All (λ c. c < told.1) told.0.items) }
 {
-    Ok(intern_all(alloc, &Numbering { classes }, places)?.numbers)
+    let Interned { values, numbers } = intern_all(alloc, &Numbering { classes }, places)?;
+    Ok((numbers, values.len()))
 }
 
-impl<'a> AccessClasses<'a> {
-    /// The classes of the accesses of some paths, which stand at these places.
-    pub fn of(
-        alloc: Global,
-        paths: &'a [Path],
-        places: &[Placed],
-    ) -> Result<AccessClasses<'a>, AllocError>
-        requires { places.now ≡ all_from 0 paths.now }
-        ensures { IfOk result (λ classes. classes ≡ paths.now) }
-    {
-        let classes = cover_classes_of(alloc, paths)?;
-        let numbers = numbers_of(alloc, &classes, places)?;
-        Ok(AccessClasses { paths, numbers })
+/// For each node where its accesses begin among all.
+fn starts_of(alloc: Global, paths: &[Path]) -> Result<Vec<usize>, AllocError>
+    requires { length (all_from 0 paths.now) < 2 ^ 64 }
+    ensures { IfOk result (λ starts. starts.items ≡ starts_from 0 paths.now) }
+{
+    let mut starts = Vec::with_capacity(alloc, paths.len())?;
+    let mut start = 0;
+    for path in paths {
+        starts.push(start)?;
+        start += path.accesses.as_slice().len();
     }
-
-    /// Whether the accesses of two numbers are of one class.
-    fn is_same(&self, one: u32, other: u32) -> bool
-        requires one { one < length (all_from 0 self.now) }
-        requires other { other < length (all_from 0 self.now) }
-        ensures { IsTrue result → AreLikePlaces self.now one other }
-    {
-        number_at(&self.numbers, one) == number_at(&self.numbers, other)
-    }
+    Ok(starts)
 }
 
-impl<'a> Interner for AccessClasses<'a> {
-    type Key = PlacePair;
+/// Enters an access under the number of its class.
+fn enter(marks: &mut Vec<u32>, numbers: &[u32], n: usize)
+    requires few { length numbers.now ≤ 2 ^ 32 }
+    requires number { n < length numbers.now }
+    requires class { slice_index_or numbers.now n 0 < length marks.old.items }
+    ensures { marks.new.items ≡ set marks.old.items (slice_index_or numbers.now n 0) n }
+{
+    marks[numbers[n] as usize] = n as u32;
+}
 
-    type Value = PlacePair;
-
-    ghost takes = { λ paths pair. IsAskedAt paths pair };
-
-    ghost is_sound = { λ paths judged. IsAskedAt paths judged };
-
-    ghost serves = { λ paths pair judged.
-        IsLike paths (asked_at paths pair) (asked_at paths judged) };
-
-    fn hash(&self, pair: &PlacePair) -> usize {
-        let first = number_at(&self.numbers, pair.first);
-        let second = number_at(&self.numbers, pair.second);
-        mix(first as usize, second as usize)
+/// For each class its first access.
+fn firsts_of(alloc: Global, numbers: &[u32], count: usize) -> Result<Vec<u32>, AllocError>
+    requires few { length numbers.now ≤ 2 ^ 32 }
+    requires within { All (λ c. c < count) numbers.now }
+    ensures firsts { IfOk result (λ firsts. AreFirsts numbers.now firsts.items) }
+    ensures size { IfOk result (λ firsts. length firsts.items ≡ count) }
+{
+    let mut firsts = vec![in alloc; 0; count]?;
+    let mut n = numbers.len();
+    while n > 0 {
+        n -= 1;
+        enter(&mut firsts, numbers, n);
     }
+    Ok(firsts)
+}
 
-    fn is_served(&self, pair: &PlacePair, judged: &PlacePair) -> bool {
-        self.is_same(pair.first, judged.first) && self.is_same(pair.second, judged.second)
+/// For each class its last access.
+fn lasts_of(alloc: Global, numbers: &[u32], count: usize) -> Result<Vec<u32>, AllocError>
+    requires few { length numbers.now ≤ 2 ^ 32 }
+    requires within { All (λ c. c < count) numbers.now }
+    ensures { IfOk result (λ lasts. AreLasts numbers.now lasts.items) }
+{
+    let mut lasts = vec![in alloc; 0; count]?;
+    for n in 0..numbers.len() {
+        enter(&mut lasts, numbers, n);
     }
+    Ok(lasts)
+}
 
-    fn make(&self, _: Global, pair: &PlacePair) -> Result<PlacePair, AllocError> {
-        Ok(*pair)
+/// Adds a node, unless it was added last.
+fn push_node(nodes: &mut Vec<usize>, node: usize) -> Result<(), AllocError>
+    ensures { OnOk result ((x : ℕ) → Contains nodes.new.items x
+        ↔ (Contains nodes.old.items x ⊎ (x ≡ node))) }
+{
+    if nodes.last() == Some(&node) {
+        return Ok(());
     }
+    nodes.push(node)?;
+    Ok(())
+}
+
+/// So many lists without nodes.
+fn empty_lists(alloc: Global, count: usize) -> Result<Vec<Vec<usize>>, AllocError>
+    ensures size { IfOk result (λ lists. length lists.items ≡ count) }
+    ensures empty { IfOk result (λ lists. (c : ℕ) → nodes_at lists.items c ≡ []) }
+{
+    let mut lists = Vec::with_capacity(alloc, count)?;
+    for _ in 0..count {
+        lists.push(Vec::new(alloc))?;
+    }
+    Ok(lists)
+}
+
+/// For each class the nodes that have an access of it.
+fn nodes_of(
+    alloc: Global,
+    places: &[Placed],
+    numbers: &[u32],
+    count: usize,
+) -> Result<Vec<Vec<usize>>, AllocError>
+    requires one_each { length numbers.now ≡ length places.now }
+    requires within { All (λ c. c < count) numbers.now }
+    ensures { IfOk result (λ nodes. AreNodes places.now numbers.now nodes.items) }
+{
+    let mut nodes = empty_lists(alloc, count)?;
+    for n in 0..places.len() {
+        push_node(&mut nodes[numbers[n] as usize], places[n].node)?;
+    }
+    Ok(nodes)
+}
+
+/// The accesses of a list of paths, and their classes.
+pub fn classes_of(alloc: Global, paths: &[Path]) -> Result<AccessClasses, AllocError>
+    ensures { IfOk result (AreClassesOf paths.now) }
+{
+    let places = all_places(alloc, paths)?;
+    if places.len() > MAX_PLACES {
+        return Err(AllocError);
+    }
+    let starts = starts_of(alloc, paths)?;
+    let covers = cover_classes_of(alloc, paths)?;
+    let (numbers, count) = numbers_of(alloc, &covers, &places)?;
+    let firsts = firsts_of(alloc, &numbers, count)?;
+    let lasts = lasts_of(alloc, &numbers, count)?;
+    let nodes = nodes_of(alloc, &places, &numbers, count)?;
+    Ok(AccessClasses {
+        places,
+        starts,
+        numbers,
+        firsts,
+        lasts,
+        nodes,
+    })
 }

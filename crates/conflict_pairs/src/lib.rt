@@ -6,6 +6,8 @@
 mod alike;
 mod apart;
 mod chain;
+mod class_pairs;
+mod classed;
 mod classes;
 mod condition;
 mod cover;
@@ -23,6 +25,7 @@ mod table;
 mod verdicts;
 
 pub use chain::Chain;
+pub use classed::{ClassTable, class_table, class_table_par};
 pub use condition::{changes_single_cells, is_question};
 pub use fault::PairFault;
 pub use interning::{Interned, Interner, intern_all};

@@ -7,11 +7,11 @@ ghost use Rattle.conflict_pairs.specs.Pairing.{IsAskedBetween};
 ghost use Rattle.conflict_pairs.specs.Sharing.{ArePairsJudged, verdicts_in, numbers_in};
 ghost use Rattle.conflict_pairs.specs.Table.{StandsFor};
 
+use crate::classed::class_table_par;
 use crate::fault::PairFault;
 use crate::interning::Interned;
 use crate::judge::verdicts_of;
 use crate::limits::{EQUAL_PARTS, MAX_VALUES, MIN_QUESTIONS_OF_THREADS};
-use crate::listing::{numbered_questions, table_of};
 use crate::pairing::PlacePair;
 use crate::table::PairTable;
 use crate::verdicts::Verdict;
@@ -111,6 +111,23 @@ fn all_verdicts(
     Ok(Interned { values, numbers })
 }
 
+/// The verdicts on the questions of some pairs of accesses, and for each pair the number of its
+/// own, by several threads where there are many.
+pub fn verdicts_par(
+    rt: &(impl Threads + Sync),
+    alloc: Global,
+    paths: &[Path],
+    places: &[Placed],
+    pairs: &[PlacePair],
+) -> Result<Interned<Verdict>, AllocError>
+    requires { All (IsAskedBetween paths.now places.now) pairs.now }
+    ensures { IfOk result (λ judged. ArePairsJudged paths.now places.now pairs.now
+        judged.values.items judged.numbers.items) }
+{
+    let parts = parts_of(rt, alloc, paths, places, pairs)?;
+    all_verdicts(alloc, pairs.len(), parts)
+}
+
 /// All questions of the paths in order, with their verdicts, as `pairs` gives them, by several
 /// threads where there are many. They are counted before any memory is taken.
 pub fn pairs_par(
@@ -123,8 +140,7 @@ pub fn pairs_par(
     ensures too_large { (result ≡ Err PairFault.TooLarge)
         ↔ (most_questions < length (questions_of paths.now)) }
 {
-    let questions = numbered_questions(alloc, paths)?;
-    let parts = parts_of(rt, alloc, paths, &questions.places, &questions.judged)?;
-    let judged = all_verdicts(alloc, questions.judged.len(), parts)?;
-    Ok(table_of(paths, questions, judged))
+    let table = class_table_par(rt, alloc, paths)?;
+    let listed = table.listed(alloc)?;
+    Ok(listed)
 }

@@ -1,6 +1,6 @@
 -- What is said of edges is said of any relation that holds of the same nodes.
 use Rattle.std.proofs.Common.{ℕ, List, [], ◌∷◌}
-use Rattle.prog_paths.specs.StaticGraph.{Leads, here, onward, IsDangerousAt}
+use Rattle.prog_paths.specs.StaticGraph.{Leads, here, onward}
 use Rattle.dep_graph.specs.Ways.{LeadsOn, IsWay, IsLeastWay}
 
 -- whatever the one joins, the other joins
@@ -24,11 +24,4 @@ IsLeastWay-alike R S to back from end nodes w = record {
   way = IsWay-within R S to from end nodes w.way;
   shortest = λ others o. w.shortest others (IsWay-within S R back from end others o);
   least = λ others o e. w.least others (IsWay-within S R back from end others o) e;
-}
-
-pub IsDangerousAt-within : (R S U V : ℕ → ℕ → Type 0) → IsWithin R S → IsWithin U V → (x y z : ℕ) → IsDangerousAt R U x y z → IsDangerousAt S V x y z
-IsDangerousAt-within R S U V edge vulnerable x y z d = record {
-  first = vulnerable x y d.first;
-  second = vulnerable y z d.second;
-  back = Leads-within R S edge z x d.back;
 }

@@ -5,10 +5,10 @@ pub mod Onward
 pub mod Alike
 pub mod Entering
 pub mod Entries
-pub mod Standing
-pub mod Laws
-pub mod Placing
+pub mod Deciding
+pub mod Answering
 pub mod Exposing
+pub mod Laws
 pub mod Rising
 mod Vectors
 pub mod Nexts

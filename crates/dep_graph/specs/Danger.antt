@@ -1,24 +1,30 @@
 -- The least dangerous structure of a list of paths.
-use Rattle.std.specs.Prelude.{◌≡◌, ℕ, List, [], ◌∷◌, Some, slice_get}
+use Rattle.std.specs.Prelude.{◌≡◌, ℕ, ◌≤◌, List, [], ◌∷◌}
+use Rattle.prog_check.specs.declared.path.Access.{Access}
 use Rattle.prog_check.specs.declared.path.Path.{Path}
-use Rattle.prog_paths.specs.StaticGraph.{IsUpToPair, IsExposed, StaticEdge, IsVulnerable, IsDangerousAt, HasReadWrite, IsAtMost}
-use Rattle.conflict_pairs.specs.declared.verdicts.Verdict.TheVariants.{Exposed}
-use Rattle.conflict_pairs.specs.Verdicts.{IsExposedBy}
-use Rattle.conflict_pairs.specs.Table.{Judged, Table}
+use Rattle.prog_paths.specs.StaticGraph.{QuestionNumbers, AsksOf, AsksReadWrite, IsUpToPair, IsExposed, StaticEdge, IsVulnerable, IsDangerousAt, HasReadWrite, IsAtMost}
 use Rattle.prog_paths.specs.Questions.{numbers_of}
+use Rattle.conflict_pairs.specs.Verdicts.{IsExposedBy}
 use Rattle.dep_graph.specs.declared.danger.Danger.{Danger}
 use Rattle.dep_graph.specs.declared.danger.Exposure.{Exposure}
 use Rattle.dep_graph.specs.Ways.{IsLeastWay}
-use Rattle.dep_graph.specs.Marks.{IsFirstVulnerable, marks_of}
 
--- the first entry that makes the edge from x to y vulnerable: its question and its sample
-pub record IsFirstExposure (t : Table) (x y : ℕ) (e : Exposure) : Type 0 where
-  pub place : ℕ
-  pub first : IsFirstVulnerable (marks_of t).marks x y place
-  pub entry : Judged
-  pub at : slice_get t.entries place ≡ Some entry
-  pub question : entry.question ≡ e.question
-  pub verdict : entry.verdict ≡ Exposed e.sample
+-- the question of these numbers is exposed, and may be a read-write dependency: it is told with its kinds and its sample
+pub record IsExposureAt (paths : List Path) (q : QuestionNumbers) (e : Exposure) : Type 0 where
+  pub mine : Access
+  pub theirs : Access
+  pub asked : AsksOf paths q mine theirs
+  pub kinds : AsksReadWrite mine.kind theirs.kind
+  pub is : q ≡ numbers_of e.question
+  pub mine_kind : e.question.mine ≡ mine.kind
+  pub their_kind : e.question.theirs ≡ theirs.kind
+  pub sample : IsExposedBy paths q mine theirs e.sample
+
+-- so it is of access `a` of x against an access of y, and none of its questions that make the edge vulnerable is before it
+pub record IsLeastOfAccess (paths : List Path) (x a y : ℕ) (e : Exposure) : Type 0 where
+  pub number : ℕ
+  pub exposure : IsExposureAt paths (record { x = x; a = a; y = y; b = number }) e
+  pub least : (h : HasReadWrite (IsExposed paths) paths x y) → h.question.a ≡ a → number ≤ h.question.b
 
 -- a question that makes the edge from x to y vulnerable, with its kinds and its sample; none of these questions is
 -- before it

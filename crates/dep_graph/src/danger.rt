@@ -1,14 +1,17 @@
-//! The least dangerous structure of a table.
+//! The least dangerous structure of a list of paths.
 
-ghost use Rattle.dep_graph.specs.Marks.{HasVulnerable, IsFirstVulnerable, marks_of};
-ghost use Rattle.std.specs.Prelude.{IfOk};
-ghost use Rattle.dep_graph.specs.Danger.{IsFirstExposure};
+ghost use Rattle.std.specs.Prelude.{◌≡◌, ◌↔◌, ◌<◌, length, All, IsTrue, IfOk, IfSome, IfNone};
+ghost use Rattle.prog_paths.specs.Questions.{ChangesSingleCells};
+ghost use Rattle.prog_paths.specs.StaticGraph.{AsksReadWrite, IsVulnerable};
+ghost use Rattle.conflict_pairs.specs.Alike.{accesses_at};
+ghost use Rattle.dep_graph.specs.Danger.{IsExposureAt, IsLeastOfAccess, IsLeastExposed};
 
-use crate::mark::entry_mark;
-use conflict_pairs::{PairTable, Question, Verdict};
+use conflict_pairs::{Question, Verdict, verdict};
 use order_facts::Sample;
+use prog_check::{Access, Path};
+use prog_paths::asks_read_write;
 use prog_tree::Sequence;
-use std::alloc::AllocError;
+use std::alloc::{AllocError, Global};
 
 /// An exposed question, with the sample under which its two accesses meet.
 #[derive(Drop)]
@@ -29,32 +32,105 @@ pub struct Danger {
     pub back: Sequence<usize>,
 }
 
-/// The place of the first question that makes the edge from `x` to `y` vulnerable.
-fn first_vulnerable(table: &PairTable, x: usize, y: usize) -> usize
-    requires { HasVulnerable (marks_of table.now) x y }
-    ensures { IsFirstVulnerable (marks_of table.now).marks x y result }
+/// The accesses of a node.
+fn accesses_of(paths: &[Path], x: usize) -> &[Access]
+    requires { x < length paths.now }
+    ensures { result.now ≡ accesses_at paths.now x }
 {
-    for n in 0..table.len() {
-        let mark = entry_mark(table, n);
-        if mark.vulnerable && mark.x == x && mark.y == y {
-            return n;
+    paths[x].accesses.as_slice()
+}
+
+/// Whether the first access may miss what the second changes.
+fn may_miss(mine: &Access, theirs: &Access) -> bool
+    ensures { IsTrue result
+        ↔ ((mine.now.table ≡ theirs.now.table) × AsksReadWrite mine.now.kind theirs.now.kind) }
+{
+    mine.table == theirs.table && asks_read_write(mine.kind, theirs.kind)
+}
+
+/// The question of access `a` of the node `x` against access `b` of `y`, with its sample, where it
+/// makes the edge from `x` to `y` vulnerable.
+fn exposure_at(
+    alloc: Global,
+    paths: &[Path],
+    x: usize,
+    a: usize,
+    y: usize,
+    b: usize,
+) -> Result<Option<Exposure>, AllocError>
+    requires x { x < length paths.now }
+    requires a { a < length (accesses_at paths.now x) }
+    requires y { y < length paths.now }
+    requires b { b < length (accesses_at paths.now y) }
+    requires single { All ChangesSingleCells paths.now }
+    ensures found { IfOk result (λ found. IfSome found
+        (IsExposureAt paths.now (record { x = x; a = a; y = y; b = b }))) }
+    ensures none { IfOk result (λ found. IfNone found ((h : IsVulnerable paths.now x y)
+        → ¬ ((h.question.a ≡ a) × (h.question.b ≡ b)))) }
+{
+    let mine = &accesses_of(paths, x)[a];
+    let theirs = &accesses_of(paths, y)[b];
+    if !may_miss(mine, theirs) {
+        return Ok(None);
+    }
+    match verdict(alloc, &paths[x], a, &paths[y], b)? {
+        Verdict::Exposed(sample) => {
+            let question = Question {
+                x,
+                a,
+                y,
+                b,
+                mine: mine.kind,
+                theirs: theirs.kind,
+            };
+            Ok(Some(Exposure { question, sample }))
+        }
+        _ => Ok(None),
+    }
+}
+
+/// The first question of access `a` of the node `x` that makes the edge to `y` vulnerable, with its
+/// sample.
+fn first_of_access(
+    alloc: Global,
+    paths: &[Path],
+    x: usize,
+    a: usize,
+    y: usize,
+) -> Result<Option<Exposure>, AllocError>
+    requires x { x < length paths.now }
+    requires a { a < length (accesses_at paths.now x) }
+    requires y { y < length paths.now }
+    requires single { All ChangesSingleCells paths.now }
+    ensures found { IfOk result (λ found. IfSome found (IsLeastOfAccess paths.now x a y)) }
+    ensures none { IfOk result (λ found. IfNone found ((h : IsVulnerable paths.now x y)
+        → ¬ (h.question.a ≡ a))) }
+{
+    let count = accesses_of(paths, y).len();
+    for b in 0..count {
+        if let Some(exposure) = exposure_at(alloc, paths, x, a, y, b)? {
+            return Ok(Some(exposure));
         }
     }
-    unreachable!()
+    Ok(None)
 }
 
 /// The first question that makes the edge from `x` to `y` vulnerable, with its sample.
-pub fn first_exposure(table: &PairTable, x: usize, y: usize) -> Result<Exposure, AllocError>
-    requires { HasVulnerable (marks_of table.now) x y }
-    ensures { IfOk result (λ e. IsFirstExposure table.now x y e) }
+pub fn first_exposure(
+    alloc: Global,
+    paths: &[Path],
+    x: usize,
+    y: usize,
+) -> Result<Exposure, AllocError>
+    requires single { All ChangesSingleCells paths.now }
+    requires vulnerable { IsVulnerable paths.now x y }
+    ensures { IfOk result (IsLeastExposed paths.now x y) }
 {
-    let n = first_vulnerable(table, x, y);
-    let question = table.question(n);
-    match table.verdict(n) {
-        Verdict::Exposed(sample) => {
-            let sample = sample.copy()?;
-            Ok(Exposure { question, sample })
+    let count = accesses_of(paths, x).len();
+    for a in 0..count {
+        if let Some(exposure) = first_of_access(alloc, paths, x, a, y)? {
+            return Ok(exposure);
         }
-        _ => unreachable!(),
     }
+    unreachable!()
 }

@@ -1,78 +1,101 @@
-//! The static graph of a table of questions.
+//! The static graph of a list of paths.
 
-ghost use Rattle.std.specs.Prelude.{◌≡◌, ◌↔◌, List, length, ◌<◌, ◌≤◌, true, IfOk, IfSome, IfNone};
-ghost use Rattle.std.specs.Prelude.{IsTrue};
-ghost use Rattle.prog_check.specs.declared.path.Path.{Path};
+ghost use Rattle.std.specs.Prelude.{◌≡◌, ◌↔◌, length, ◌<◌, ◌≤◌, true, IfOk, IfSome, IfNone, IsTrue};
+ghost use Rattle.std.specs.Prelude.{Some, slice_get};
 ghost use Rattle.prog_paths.specs.StaticGraph.{StaticEdge, IsVulnerable, Leads, IsDangerous};
-ghost use Rattle.conflict_pairs.specs.Table.{StandsFor};
+ghost use Rattle.conflict_pairs.specs.Classed.{ClassAnswer};
 ghost use Rattle.dep_graph.specs.Counting.{IsCountOf};
-ghost use Rattle.order_facts.specs.Square.{entry, IsSquareOf};
-ghost use Rattle.dep_graph.specs.Marks.{has_edge, has_vulnerable, marks_of};
+ghost use Rattle.order_facts.specs.Square.{entry};
+ghost use Rattle.dep_graph.specs.Marks.{given_by, row_marks, answer_marks, EntersMarks, IsTableOf};
 ghost use Rattle.dep_graph.specs.Danger.{IsLeastDanger};
 
 use crate::closure::close;
 use crate::danger::{Danger, first_exposure};
 use crate::least_way::least_way;
-use crate::mark::{entry_mark, is_same, no_mark};
 use crate::triple::least_triple;
-use conflict_pairs::PairTable;
+use conflict_pairs::{ClassTable, Question, Verdict};
 use order_facts::Square;
-use prog_paths::{EdgeTables, Mark};
+use prog_check::{Kind, Path};
+use prog_paths::{EdgeTables, Mark, mark_by};
 use prog_tree::Sequence;
 use std::alloc::{AllocError, Global};
 use std::marker::Model;
 
-/// Which nodes of a table are joined by an edge, by a vulnerable one, and which reach which.
+/// Which nodes of some paths are joined by an edge, by a vulnerable one, and which reach which.
 #[derive(Drop)]
 pub struct Graph<'a> {
-    table: &'a PairTable,
+    paths: &'a [Path],
     edges: Square,
     vulnerable: Square,
     reach: Square,
 }
 
 impl<'a> Model for Graph<'a> {
-    ghost use Rattle.conflict_pairs.specs.Table.{Table};
-    ghost use Rattle.dep_graph.specs.Marks.{IsGraphOf, marks_of};
+    ghost use Rattle.std.specs.Prelude.{List};
+    ghost use Rattle.prog_check.specs.declared.path.Path.{Path};
+    ghost use Rattle.dep_graph.specs.Marks.{IsGraphOf};
 
-    ghost Value = { Table };
+    ghost Value = { List Path };
 
-    ghost view = { λ g. g.table.now };
+    ghost view = { λ g. g.paths.now };
 
-    ghost invariant = { λ g. IsGraphOf (marks_of g.table.now) g.edges g.vulnerable g.reach };
+    ghost invariant = { λ g. IsGraphOf g.paths.now g.edges g.vulnerable g.reach };
 }
 
-// For so many second nodes the last mark is remembered: a set has no more nodes.
-const REMEMBERED: usize = 512;
-
-// Where the last mark of a second node stands.
-fn slot_of(mark: Mark) -> usize
-    ensures { result < REMEMBERED }
+/// Enters what accesses of the node `x` give with those of each of some nodes.
+fn enter_row(tables: &mut EdgeTables, x: usize, ys: &[usize], given: Mark)
+    ensures { EntersMarks tables.old tables.new (row_marks given x ys.now) }
 {
-    mark.y % REMEMBERED
+    for y in ys {
+        tables.enter(Mark { x, y: *y, ..given });
+    }
 }
 
-/// The edges that a table's questions give. Accesses that never meet give none. One node asks much
-/// of another, and mostly with one mark, which is entered once.
-fn edges_of(alloc: Global, table: &PairTable) -> Result<EdgeTables, AllocError>
-    ensures edges { IfOk result
-        (λ e. IsSquareOf e.edges table.now.nodes (has_edge (marks_of table.now).marks)) }
-    ensures vulnerable { IfOk result
-        (λ e. IsSquareOf e.vulnerable table.now.nodes (has_vulnerable (marks_of table.now).marks)) }
+/// What two accesses of these kinds give, at whatever nodes.
+fn given_by(mine: Kind, theirs: Kind, verdict: &Verdict) -> Mark
+    ensures { result ≡ given_by mine theirs verdict.now }
 {
-    let mut tables = EdgeTables::new(alloc, table.nodes())?;
-    let none = no_mark();
-    let mut last = [none; REMEMBERED];
+    let question = Question {
+        x: 0,
+        a: 0,
+        y: 0,
+        b: 0,
+        mine,
+        theirs,
+    };
+    mark_by(question, verdict.can_meet(), verdict.is_exposed())
+}
+
+/// Enters what the pair of classes of a number gives: the same for each node of the first and each
+/// of the second. Accesses that never meet give nothing.
+fn enter_answer(tables: &mut EdgeTables, table: &ClassTable<'_>, n: usize)
+    requires { n < length table.now.answers }
+    ensures { (e : ClassAnswer) → slice_get table.now.answers n ≡ Some e
+        → EntersMarks tables.old tables.new (answer_marks e) }
+{
+    let verdict = table.verdict(n);
+    if !verdict.can_meet() {
+        return;
+    }
+    let (mine, theirs) = table.kinds(n);
+    let given = given_by(mine, theirs, verdict);
+    let firsts = table.first_nodes(n);
+    let seconds = table.second_nodes(n);
+    for x in firsts {
+        enter_row(tables, *x, seconds, given);
+    }
+}
+
+/// The edges that the answers to all questions give.
+fn edges_of(alloc: Global, table: &ClassTable<'_>) -> Result<EdgeTables, AllocError>
+    ensures edges { IfOk result (λ e. IsTableOf e.edges (length table.now.paths)
+        (StaticEdge table.now.paths)) }
+    ensures vulnerable { IfOk result (λ e. IsTableOf e.vulnerable (length table.now.paths)
+        (IsVulnerable table.now.paths)) }
+{
+    let mut tables = EdgeTables::new(alloc, table.paths().len())?;
     for n in 0..table.len() {
-        if !table.verdict(n).can_meet() {
-            continue;
-        }
-        let mark = entry_mark(table, n);
-        let slot = slot_of(mark);
-        if !is_same(last[slot], mark) {
-            last[slot] = mark;
-            tables.enter(mark);
-        }
+        enter_answer(&mut tables, table, n);
     }
     Ok(tables)
 }
@@ -93,14 +116,14 @@ fn column_count(matrix: &Square, to: usize) -> usize
 }
 
 impl<'a> Graph<'a> {
-    /// The graph of a table.
-    pub fn build(alloc: Global, table: &'a PairTable) -> Result<Graph<'a>, AllocError>
-        ensures { IfOk result (λ g. g ≡ table.now) }
+    /// The graph of the paths whose questions are answered.
+    pub fn build(alloc: Global, table: &ClassTable<'a>) -> Result<Graph<'a>, AllocError>
+        ensures { IfOk result (λ g. g ≡ table.now.paths) }
     {
         let EdgeTables { edges, vulnerable } = edges_of(alloc, table)?;
         let reach = close(&edges)?;
         Ok(Graph {
-            table,
+            paths: table.paths(),
             edges,
             vulnerable,
             reach,
@@ -109,67 +132,62 @@ impl<'a> Graph<'a> {
 
     /// How many nodes it has.
     pub fn nodes(&self) -> usize
-        ensures { result ≡ self.now.nodes }
+        ensures { result ≡ length self.now }
     {
         self.edges.size()
     }
 
     /// Whether instances of `x` and `y` can have a dependency, `x` before `y`.
     pub fn edge(&self, x: usize, y: usize) -> bool
-        requires x { x < self.now.nodes }
-        requires y { y < self.now.nodes }
-        ensures { (paths : List Path) → StandsFor self.now paths
-            → (IsTrue result ↔ StaticEdge paths x y) }
+        requires x { x < length self.now }
+        requires y { y < length self.now }
+        ensures { IsTrue result ↔ StaticEdge self.now x y }
     {
         self.edges.get(x, y)
     }
 
     /// Whether the edge from `x` to `y` is vulnerable.
     pub fn vulnerable(&self, x: usize, y: usize) -> bool
-        requires x { x < self.now.nodes }
-        requires y { y < self.now.nodes }
-        ensures { (paths : List Path) → StandsFor self.now paths
-            → (IsTrue result ↔ IsVulnerable paths x y) }
+        requires x { x < length self.now }
+        requires y { y < length self.now }
+        ensures { IsTrue result ↔ IsVulnerable self.now x y }
     {
         self.vulnerable.get(x, y)
     }
 
     /// Whether `x` reaches `y`, by any number of edges.
     pub fn reaches(&self, x: usize, y: usize) -> bool
-        requires x { x < self.now.nodes }
-        requires y { y < self.now.nodes }
-        ensures { (paths : List Path) → StandsFor self.now paths
-            → (IsTrue result ↔ Leads (StaticEdge paths) x y) }
+        requires x { x < length self.now }
+        requires y { y < length self.now }
+        ensures { IsTrue result ↔ Leads (StaticEdge self.now) x y }
     {
         self.reach.get(x, y)
     }
 
     /// How many nodes reach `x`, itself counted.
     pub fn level(&self, x: usize) -> usize
-        requires { x < self.now.nodes }
-        ensures { (paths : List Path) → StandsFor self.now paths
-            → IsCountOf (λ u. Leads (StaticEdge paths) u x) (length paths) result }
+        requires { x < length self.now }
+        ensures { IsCountOf (λ u. Leads (StaticEdge self.now) u x) (length self.now) result }
     {
         column_count(&self.reach, x)
     }
 
     /// The least dangerous structure, if there is one.
     pub fn danger(&self) -> Result<Option<Danger>, AllocError>
-        ensures found { IfOk result (λ found. IfSome found (λ d. (paths : List Path)
-            → StandsFor self.now paths → IsLeastDanger paths d)) }
-        ensures none { IfOk result (λ found. IfNone found ((paths : List Path)
-            → StandsFor self.now paths → ¬ IsDangerous paths)) }
+        ensures found { IfOk result (λ found. IfSome found (IsLeastDanger self.now)) }
+        ensures none { IfOk result (λ found. IfNone found (¬ IsDangerous self.now)) }
     {
         let Some(triple) = least_triple(&self.vulnerable, &self.reach) else {
             return Ok(None);
         };
-        let back = least_way(self.edges.allocator(), &self.edges, triple.z, triple.x)?;
+        let alloc = self.edges.allocator();
+        let back = least_way(alloc, &self.edges, triple.z, triple.x)?;
         Ok(Some(Danger {
             x: triple.x,
             y: triple.y,
             z: triple.z,
-            first: first_exposure(self.table, triple.x, triple.y)?,
-            second: first_exposure(self.table, triple.y, triple.z)?,
+            first: first_exposure(alloc, self.paths, triple.x, triple.y)?,
+            second: first_exposure(alloc, self.paths, triple.y, triple.z)?,
             back: Sequence::from_vec(back),
         }))
     }

@@ -7,7 +7,6 @@ mod danger;
 mod distances;
 mod graph;
 mod least_way;
-mod mark;
 mod triple;
 
 pub use danger::{Danger, Exposure};

@@ -1,7 +1,7 @@
 -- The certificate of a table without a dangerous structure is accepted, and is that of the paths.
 use Rattle.std.proofs.Common.{◌≡◌, ℕ, ◌<◌, ◌≤◌, List, length, map, ◌⊎◌, inl, inr, subst}
 use Rattle.std.proofs.lemmas.Bool.{cases_lt}
-use Rattle.std.specs.Prelude.{slice_index_or, Option, Some, None, IfSome, IfNone}
+use Rattle.std.specs.Prelude.{slice_index_or, Option, None, IfNone}
 use Rattle.prog_check.specs.declared.path.Path.{Path}
 use Rattle.prog_paths.specs.StaticGraph.{StaticEdge, IsDangerous}
 use Rattle.prog_paths.specs.Questions.{questions_of}
@@ -57,6 +57,3 @@ within n not = go (cases_lt most_questions n)
 
 pub where_none : {X : Type 0} (o : Option X) (P : Type 0) → o ≡ None → IfNone o P → P
 where_none {X = X} o P e h = subst (λ (found : Option X). IfNone found P) e h
-
-pub where_some : {X : Type 0} (o : Option X) (P : X → Type 0) (x : X) → o ≡ Some x → IfSome o P → P x
-where_some {X = X} o P x e h = subst (λ (found : Option X). IfSome found P) e h

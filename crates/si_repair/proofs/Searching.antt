@@ -21,6 +21,9 @@ any-more {X = X} P xs i d inside none other h =
     go (inl c) = none (c.0, h.1, c.1, c.2, h.4)
     go (inr e) = other (subst P (sym e) h.4)
 
+pub any-here : {X : Type 0} (P : X → Type 0) (xs : List X) (i : ℕ) (d : X) → i < length xs → P (get_or xs i d) → Any P xs
+any-here P xs i d inside h = let at = Contains-get_or xs i d inside in (at.0, get_or xs i d, at.1, at.2, h)
+
 pub any-end : {X : Type 0} (P : X → Type 0) (xs : List X) (n : ℕ) → length xs ≤ n → (Any P (take n xs) → ⊥) → Any P xs → ⊥
 any-end {X = X} P xs n past none h = none (subst (λ (ys : List X). Any P ys) (sym (take_all n xs past)) h)
 

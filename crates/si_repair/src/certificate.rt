@@ -1,7 +1,6 @@
 //! The certificate of a table whose graph has no dangerous structure.
-ghost use Rattle.std.specs.Prelude.{◌≡◌, ◌<◌, ◌≤◌, ◌+◌, ◌++◌, List, map, All, IfOk, vec_len};
+ghost use Rattle.std.specs.Prelude.{◌≡◌, ◌<◌, ◌≤◌, ◌+◌, ◌++◌, map, All, IfOk, vec_len};
 ghost use Rattle.std.specs.Prelude.{vec_capacity};
-ghost use Rattle.prog_check.specs.declared.path.Path.{Path};
 ghost use Rattle.prog_paths.specs.Few.{AreFew};
 ghost use Rattle.conflict_pairs.specs.Table.{StandsFor};
 ghost use Rattle.robust_cert.specs.Accepted.{body_size};
@@ -87,10 +86,9 @@ fn entries_of(alloc: Global, table: &PairTable) -> Result<Entries, AllocError>
 }
 
 /// The level of each node.
-fn levels_of(alloc: Global, graph: &Graph<'_>) -> Result<Vec<u32>, AllocError>
-    requires { IsOfFew graph.now }
-    ensures { IfOk result (λ levels.
-        (paths : List Path) → StandsFor graph.now paths → AreLevels paths levels.items) }
+pub fn levels_of(alloc: Global, graph: &Graph<'_>) -> Result<Vec<u32>, AllocError>
+    requires { AreFew graph.now }
+    ensures { IfOk result (λ levels. AreLevels graph.now levels.items) }
 {
     let mut levels = Vec::with_capacity(alloc, graph.nodes())?;
     for x in 0..graph.nodes() {
@@ -111,23 +109,22 @@ fn bodies_of(alloc: Global, paths: &[Path]) -> Result<Vec<u32>, AllocError>
     Ok(bodies)
 }
 
-/// The certificate of the table of a list of paths, with its graph.
+/// The certificate of the table of a list of paths, with the levels of its nodes.
 pub fn certificate_of(
     alloc: Global,
     paths: &[Path],
     table: &PairTable,
-    graph: &Graph<'_>,
+    levels: Vec<u32>,
 ) -> Result<Certificate, AllocError>
     requires paths { StandsFor table.now paths.now }
     requires few { AreFew paths.now }
-    requires graph { graph.now ≡ table.now }
     ensures entries { IfOk result (λ c. c.entries ≡ told_of table.now.entries) }
-    ensures levels { IfOk result (λ c. AreLevels paths.now c.levels) }
+    ensures levels { IfOk result (λ c. c.levels ≡ levels.items) }
     ensures bodies { IfOk result (λ c. c.bodies ≡ map body_size paths.now) }
 {
     Ok(Certificate {
         entries: entries_of(alloc, table)?,
-        levels: Sequence::from_vec(levels_of(alloc, graph)?),
+        levels: Sequence::from_vec(levels),
         bodies: Sequence::from_vec(bodies_of(alloc, paths)?),
     })
 }

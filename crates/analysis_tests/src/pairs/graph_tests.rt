@@ -2,11 +2,11 @@
 
 use crate::dangers::shown;
 use crate::examples::{SKEW, paths_of};
-use crate::pairs::sets::table_of;
+use crate::pairs::sets::class_table_of;
 use crate::told::is_told;
-use conflict_pairs::PairTable;
 use dep_graph::Graph;
 use example_sets::{LEDGER, REPORT, SMALL_BANK, TRANSFER};
+use prog_paths::Path;
 use std::alloc::{AllocError, Global};
 use std::process::Abort;
 use std::test::Fail;
@@ -28,26 +28,26 @@ fn told_of_graph(alloc: Global, graph: &Graph) -> Result<String, AllocError> {
     }
 }
 
-fn told_of_table(alloc: Global, table: &PairTable) -> Result<String, AllocError> {
-    let graph = Graph::build(alloc, table)?;
-    let told = told_of_graph(alloc, &graph);
-    drop(graph);
-    told
+/// The graph of some paths.
+fn graph_of<'a>(rt: &impl Abort, alloc: Global, paths: &'a [Path]) -> Result<Graph<'a>, Fail> {
+    let table = class_table_of(rt, alloc, paths)?;
+    let graph = Graph::build(alloc, &table);
+    drop(table);
+    Ok(graph?)
 }
 
-/// The table of a set.
-fn table_of_text(rt: &impl Abort, alloc: Global, text: &str) -> Result<PairTable, Fail> {
-    let paths = paths_of(alloc, text)?;
-    let table = table_of(rt, alloc, &paths);
-    drop(paths);
-    Ok(table?)
+fn told_of_paths(rt: &impl Abort, alloc: Global, paths: &[Path]) -> Result<String, Fail> {
+    let graph = graph_of(rt, alloc, paths)?;
+    let told = told_of_graph(alloc, &graph);
+    drop(graph);
+    Ok(told?)
 }
 
 /// Asserts what the danger of a set is, or else what its levels are.
 fn check(rt: &impl Abort, alloc: Global, text: &str, wanted: &str) -> Result<(), Fail> {
-    let table = table_of_text(rt, alloc, text)?;
-    let told = told_of_table(alloc, &table);
-    drop(table);
+    let paths = paths_of(alloc, text)?;
+    let told = told_of_paths(rt, alloc, &paths);
+    drop(paths);
     is_told(rt, told?.as_str(), wanted);
     Ok(())
 }
@@ -85,8 +85,8 @@ fn check_ledger(rt: &impl Abort, graph: &Graph) {
     assert!(rt; graph.vulnerable(2, 0) && graph.vulnerable(0, 1) && !graph.vulnerable(0, 2));
 }
 
-fn check_ledger_table(rt: &impl Abort, alloc: Global, table: &PairTable) -> Result<(), AllocError> {
-    let graph = Graph::build(alloc, table)?;
+fn check_ledger_paths(rt: &impl Abort, alloc: Global, paths: &[Path]) -> Result<(), Fail> {
+    let graph = graph_of(rt, alloc, paths)?;
     check_ledger(rt, &graph);
     drop(graph);
     Ok(())
@@ -94,8 +94,8 @@ fn check_ledger_table(rt: &impl Abort, alloc: Global, table: &PairTable) -> Resu
 
 #[test]
 fn a_total_reaches_a_close_by_way_of_a_post(rt: HostRuntime) -> Result<(), Fail> {
-    let table = table_of_text(&rt, rt.alloc(), LEDGER)?;
-    let checked = check_ledger_table(&rt, rt.alloc(), &table);
-    drop(table);
-    Ok(checked?)
+    let paths = paths_of(rt.alloc(), LEDGER)?;
+    let checked = check_ledger_paths(&rt, rt.alloc(), &paths);
+    drop(paths);
+    checked
 }

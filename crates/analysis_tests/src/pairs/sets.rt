@@ -1,6 +1,9 @@
 //! The tables of sets, and texts of sets that these tests alone take.
 
-use conflict_pairs::{PairFault, PairTable, changes_single_cells, pairs, pairs_par};
+use conflict_pairs::{
+    ClassTable, PairFault, PairTable, changes_single_cells, class_table, class_table_par, pairs,
+    pairs_par,
+};
 use prog_paths::Path;
 use std::alloc::Global;
 use std::process::Abort;
@@ -20,6 +23,26 @@ pub fn table_of_threads(
 ) -> Result<PairTable, PairFault> {
     assert!(rt; paths.iter().all(|path| changes_single_cells(path)));
     pairs_par(rt, alloc, paths)
+}
+
+/// What is told of all questions of some paths, class by class.
+pub fn class_table_of<'a>(
+    rt: &impl Abort,
+    alloc: Global,
+    paths: &'a [Path],
+) -> Result<ClassTable<'a>, PairFault> {
+    assert!(rt; paths.iter().all(|path| changes_single_cells(path)));
+    class_table(alloc, paths)
+}
+
+/// The same, as `class_table_par` makes it.
+pub fn class_table_of_threads<'a>(
+    rt: &(impl Abort + Threads + Sync),
+    alloc: Global,
+    paths: &'a [Path],
+) -> Result<ClassTable<'a>, PairFault> {
+    assert!(rt; paths.iter().all(|path| changes_single_cells(path)));
+    class_table_par(rt, alloc, paths)
 }
 
 /// A read and a write of one cell that stand in a body.

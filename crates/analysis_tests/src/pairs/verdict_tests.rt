@@ -1,12 +1,14 @@
-//! Verdicts, and the table of all of them.
+//! Verdicts, and the tables of all of them.
 
 use crate::dangers::{push_question, push_sample};
 use crate::examples::{paths_of, wide_paths};
-use crate::pairs::sets::{IN_A_BODY, NUMBERS, table_of, table_of_threads};
+use crate::pairs::sets::{
+    IN_A_BODY, NUMBERS, class_table_of, class_table_of_threads, table_of, table_of_threads,
+};
 use crate::told::is_told;
 use conflict_pairs::{
-    Chain, PairFault, PairTable, Verdict, changes_single_cells, is_exposed_question, is_question,
-    verdict,
+    Chain, ClassTable, PairFault, PairTable, Verdict, changes_single_cells, is_exposed_question,
+    is_question, verdict,
 };
 use example_sets::{MOVE, SMALL_BANK, TRANSFER};
 use order_facts::Node;
@@ -206,6 +208,80 @@ fn transfers_are_covered(rt: HostRuntime) -> Result<(), Fail> {
     let shown_by_threads = shown_table(&rt, rt.alloc(), by_threads);
     is_told(&rt, shown.as_str(), TRANSFERS);
     is_told(&rt, shown_by_threads.as_str(), TRANSFERS);
+    Ok(())
+}
+
+/// The table of a set's questions, listed from what is told of its classes.
+fn listed_of(rt: &impl Abort, alloc: Global, paths: &[Path]) -> Result<PairTable, PairFault> {
+    let table = class_table_of(rt, alloc, paths)?;
+    Ok(table.listed(alloc)?)
+}
+
+#[test]
+fn questions_are_listed_from_their_classes(rt: HostRuntime) -> Result<(), Fail> {
+    let paths = paths_of(rt.alloc(), TRANSFER)?;
+    let table = listed_of(&rt, rt.alloc(), &paths);
+    drop(paths);
+    let shown = shown_table(&rt, rt.alloc(), table);
+    is_told(&rt, shown.as_str(), TRANSFERS);
+    Ok(())
+}
+
+/// What is told of each two classes: their kinds and nodes, and the verdict, a line each.
+fn push_answers(text: &mut String, table: &ClassTable) -> Result<(), AllocError> {
+    for n in 0..table.len() {
+        let (mine, theirs) = table.kinds(n);
+        write!(text, "{mine:?} {:?}, ", table.first_nodes(n))?;
+        write!(text, "{theirs:?} {:?}: ", table.second_nodes(n))?;
+        push_verdict(text, table.verdict(n))?;
+        text.push_str("\n")?;
+    }
+    Ok(())
+}
+
+/// The same of a set with three paths.
+fn shown_answers(rt: &impl Abort, alloc: Global, table: Result<ClassTable, PairFault>) -> String {
+    let table = table.expect(rt, "a table");
+    assert!(rt; table.paths().len() == 3 && !table.is_empty());
+    let mut text = String::new(alloc);
+    push_answers(&mut text, &table).expect(rt, "memory");
+    drop(table);
+    text
+}
+
+/// Two programs that are alike, and one with a get that is like theirs, but no put.
+const UPDATES: &str = "\
+table t 1;
+program One(a) { let x = get t[a] else 0; put t[a] = x; }
+program Other(a) { let x = get t[a] else 0; put t[a] = x; }
+program Look(a) { let x = get t[a] else 0; }
+";
+
+/// Their classes are the gets of the first two, the puts of these, and the get of the third, which
+/// no put of its own covers. Each get asks of the puts, and each put of itself and the other.
+const OF_UPDATES: &str = "\
+Reads [0, 1], Writes [0, 1]: covered 1 1 [Mine(0), Theirs(0)] [Theirs(0), Mine(0)]
+Writes [0, 1], Writes [0, 1]: exposed 0 0 0 0 0 0
+Reads [2], Writes [0, 1]: exposed 0 0 0 0 0 0
+";
+
+#[test]
+fn each_two_classes_are_answered_once(rt: HostRuntime) -> Result<(), Fail> {
+    let paths = paths_of(rt.alloc(), UPDATES)?;
+    let table = class_table_of(&rt, rt.alloc(), &paths);
+    let shown = shown_answers(&rt, rt.alloc(), table);
+    drop(paths);
+    is_told(&rt, shown.as_str(), OF_UPDATES);
+    Ok(())
+}
+
+#[test]
+fn threads_answer_each_two_classes_once(rt: HostRuntime) -> Result<(), Fail> {
+    let paths = paths_of(rt.alloc(), UPDATES)?;
+    let table = class_table_of_threads(&rt, rt.alloc(), &paths);
+    let shown = shown_answers(&rt, rt.alloc(), table);
+    drop(paths);
+    is_told(&rt, shown.as_str(), OF_UPDATES);
     Ok(())
 }
 

@@ -1,6 +1,5 @@
 //! Which programs close a dangerous structure.
 ghost use Rattle.std.specs.Prelude.{◌≡◌, ◌<◌, OnOk, IfOk};
-ghost use Rattle.conflict_pairs.specs.Table.{StandsFor};
 ghost use Rattle.si_repair.specs.Planning.{first_pair, second_pair, AddsTriples, ClosesBehind};
 ghost use Rattle.si_repair.specs.Planning.{ClosesFrom, AreClosing};
 
@@ -45,7 +44,7 @@ fn push_behind(
     pair: Pair,
     triples: &mut Vec<ProgramTriple>,
 ) -> Result<(), AllocError>
-    requires graph { StandsFor graph.now nodes.now.paths }
+    requires graph { graph.now ≡ nodes.now.paths }
     requires from { pair.from < nodes.now.programs }
     requires to { pair.to < nodes.now.programs }
     ensures { OnOk result (AddsTriples triples.old.items triples.new.items
@@ -73,7 +72,7 @@ fn push_from(
     first: usize,
     triples: &mut Vec<ProgramTriple>,
 ) -> Result<(), AllocError>
-    requires graph { StandsFor graph.now nodes.now.paths }
+    requires graph { graph.now ≡ nodes.now.paths }
     requires first { first < nodes.now.programs }
     ensures { OnOk result (AddsTriples triples.old.items triples.new.items
         (ClosesFrom nodes.now.paths first nodes.now.programs nodes.now.programs)) }
@@ -95,7 +94,7 @@ pub fn closing_triples(
     graph: &Graph<'_>,
     programs: usize,
 ) -> Result<Vec<ProgramTriple>, AllocError>
-    requires { StandsFor graph.now paths.now }
+    requires { graph.now ≡ paths.now }
     ensures { IfOk result (λ triples. AreClosing paths.now programs triples.items) }
 {
     let nodes = ProgramNodes::new(alloc, paths, programs)?;

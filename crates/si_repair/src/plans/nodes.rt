@@ -1,7 +1,5 @@
 //! The nodes of programs, and whether a dangerous structure is among them.
-ghost use Rattle.std.specs.Prelude.{◌≡◌, ◌↔◌, ◌<◌, List, All, IfOk, IsTrue};
-ghost use Rattle.prog_check.specs.declared.path.Path.{Path};
-ghost use Rattle.conflict_pairs.specs.Table.{StandsFor};
+ghost use Rattle.std.specs.Prelude.{◌≡◌, ◌↔◌, ◌<◌, length, All, IfOk, IsTrue};
 ghost use Rattle.si_repair.specs.Planning.{AreNodesOf, EndsIn, GoesOnIn, BeginsIn};
 
 use dep_graph::Graph;
@@ -76,11 +74,10 @@ impl<'a> ProgramNodes<'a> {
 
 /// Whether one of the nodes ends a dangerous structure behind `x` and `y`.
 fn ends_in(graph: &Graph<'_>, x: usize, y: usize, thirds: &[usize]) -> bool
-    requires x { x < graph.now.nodes }
-    requires y { y < graph.now.nodes }
-    requires thirds { All (λ z. z < graph.now.nodes) thirds.now }
-    ensures { (paths : List Path) → StandsFor graph.now paths
-        → (IsTrue result ↔ EndsIn paths x y thirds.now) }
+    requires x { x < length graph.now }
+    requires y { y < length graph.now }
+    requires thirds { All (λ z. z < length graph.now) thirds.now }
+    ensures { IsTrue result ↔ EndsIn graph.now x y thirds.now }
 {
     if !graph.vulnerable(x, y) {
         return false;
@@ -95,11 +92,10 @@ fn ends_in(graph: &Graph<'_>, x: usize, y: usize, thirds: &[usize]) -> bool
 
 /// Whether a dangerous structure begins with `x` and has its other nodes among these.
 fn goes_on_in(graph: &Graph<'_>, x: usize, seconds: &[usize], thirds: &[usize]) -> bool
-    requires x { x < graph.now.nodes }
-    requires seconds { All (λ y. y < graph.now.nodes) seconds.now }
-    requires thirds { All (λ z. z < graph.now.nodes) thirds.now }
-    ensures { (paths : List Path) → StandsFor graph.now paths
-        → (IsTrue result ↔ GoesOnIn paths x seconds.now thirds.now) }
+    requires x { x < length graph.now }
+    requires seconds { All (λ y. y < length graph.now) seconds.now }
+    requires thirds { All (λ z. z < length graph.now) thirds.now }
+    ensures { IsTrue result ↔ GoesOnIn graph.now x seconds.now thirds.now }
 {
     for y in seconds {
         if ends_in(graph, x, *y, thirds) {
@@ -111,11 +107,10 @@ fn goes_on_in(graph: &Graph<'_>, x: usize, seconds: &[usize], thirds: &[usize]) 
 
 /// Whether a dangerous structure has its three nodes among these.
 pub fn begins_in(graph: &Graph<'_>, firsts: &[usize], seconds: &[usize], thirds: &[usize]) -> bool
-    requires firsts { All (λ x. x < graph.now.nodes) firsts.now }
-    requires seconds { All (λ y. y < graph.now.nodes) seconds.now }
-    requires thirds { All (λ z. z < graph.now.nodes) thirds.now }
-    ensures { (paths : List Path) → StandsFor graph.now paths
-        → (IsTrue result ↔ BeginsIn paths firsts.now seconds.now thirds.now) }
+    requires firsts { All (λ x. x < length graph.now) firsts.now }
+    requires seconds { All (λ y. y < length graph.now) seconds.now }
+    requires thirds { All (λ z. z < length graph.now) thirds.now }
+    ensures { IsTrue result ↔ BeginsIn graph.now firsts.now seconds.now thirds.now }
 {
     for x in firsts {
         if goes_on_in(graph, *x, seconds, thirds) {

@@ -11,7 +11,7 @@ use crate::fault::AnalyseFault;
 use crate::plans::Plan;
 use crate::plans::choosing::choose;
 use crate::plans::closing::closing_triples;
-use conflict_pairs::pairs;
+use conflict_pairs::class_table;
 use dep_graph::Graph;
 use prog_check::ProgramSet;
 use prog_paths::paths;
@@ -28,7 +28,7 @@ pub fn plan(alloc: Global, set: &ProgramSet) -> Result<Plan, AnalyseFault>
     ensures too_large { result ≡ Err AnalyseFault.TooLarge → AsksTooMany (draft_tree set.now) }
 {
     let paths = paths(alloc, set)?;
-    let table = pairs(alloc, &paths)?;
+    let table = class_table(alloc, &paths)?;
     let graph = Graph::build(alloc, &table)?;
     let programs = set.draft().programs.len();
     let triples = closing_triples(alloc, &paths, &graph, programs)?;

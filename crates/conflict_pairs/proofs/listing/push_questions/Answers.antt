@@ -1,68 +1,75 @@
-use Rattle.std.proofs.Common.{◌∙◌, ◌++◌, ◌<◌, List, Vec, Global, length, vec_len, vec_capacity, ap, sym, subst, arith, drop, refl}
-use Rattle.std.specs.Prelude.{All}
-use Rattle.std.proofs.lemmas.List.{drop_all}
-use Rattle.std.proofs.lemmas.List.Elements.{All-push}
-use Rattle.prog_paths.specs.Questions.{asked_by}
-use Rattle.conflict_pairs.specs.declared.pairing.PlacePair.{PlacePair}
-use Rattle.conflict_pairs.specs.Pairing.{HasPlaces, question_at, questions_at}
-use Rattle.conflict_pairs.proofs.Entries.{nothing-left, asked-yes, asked-no}
-use Rattle.conflict_pairs.proofs.Paired.{given-pushed, number-fits, number-is, number-small, number-there, pair-question}
+use Rattle.std.proofs.Common.{◌∙◌, ℕ, ◌<◌, length, get_or, subst, vec_len, vec_capacity, ap, sym, arith}
+use Rattle.std.proofs.lemmas.List.{get_or_read}
+use Rattle.conflict_pairs.specs.declared.listing.Listed.{Listed}
+use Rattle.conflict_pairs.specs.Pairing.{no_place}
+use Rattle.conflict_pairs.proofs.Entered.{adds-no, adds-yes}
+use Rattle.conflict_pairs.proofs.Paired.{number-is, number-small, number-there}
 use Rattle.conflict_pairs.proofs.listing.push_questions.Goals as goal
 use Rattle.conflict_pairs.proofs.listing.push_questions.Goals.{then-asks, else-asks}
 
-pub number_among-requires-clause-node : goal.number_among-requires-clause-node
-number_among-requires-clause-node c = (c.requires.seconds c.loop-second.second-index _ (omega arith)).has_start
-
-pub number_among-requires-clause-fits : goal.number_among-requires-clause-fits
-number_among-requires-clause-fits c = number-fits c.args.starts.now c.args.places.now c.requires.few _ (c.requires.seconds c.loop-second.second-index _ (omega arith))
-
-pub new-requires-clause-first_fits : goal.new-requires-clause-first_fits
-new-requires-clause-first_fits c = omega (arith, c.requires.number, c.requires.few)
+pub index-class-requires : goal.index-class-requires
+index-class-requires c =
+    let classes = c.args.classes.now in
+    let n = c.number_among-other.result in
+    let stands = c.requires.seconds c.loop-second.second-index _ c.loop-second-test.true in
+    let n_is = rw c.deref.ensures.value at c.number_among-other.ensures in
+    let its = c.requires.classes n (number-there classes.starts.items classes.places.items c.requires.few _ stands n n_is) in
+    omega (arith, its.number_within, classes.numbers.ok.0)
 
 pub new-requires-clause-second_fits : goal.new-requires-clause-second_fits
-new-requires-clause-second_fits c = number-small c.args.starts.now c.args.places.now c.requires.few _ (c.requires.seconds c.loop-second.second-index _ (omega arith)) c.number_among.result c.number_among.ensures
+new-requires-clause-second_fits c =
+    let classes = c.args.classes.now in
+    let n = c.number_among-other.result in
+    let stands = c.requires.seconds c.loop-second.second-index _ c.loop-second-test.true in
+    let n_is = rw c.deref.ensures.value at c.number_among-other.ensures in
+    number-small classes.starts.items classes.places.items c.requires.few _ stands n n_is
 
-pub push_reserved-requires : goal.push_reserved-requires
-push_reserved-requires c = omega (arith, c.loop-second-test.true, c.loop-second.invariant.room)
+pub number_at-requires : goal.number_at-requires
+number_at-requires c =
+    let classes = c.args.classes.now in
+    let n = c.number_among-other.result in
+    let stands = c.requires.seconds c.loop-second.second-index _ c.loop-second-test.true in
+    let n_is = rw c.deref.ensures.value at c.number_among-other.ensures in
+    let its = c.requires.classes n (number-there classes.starts.items classes.places.items c.requires.few _ stands n n_is) in
+    let class_is = get_or_read classes.numbers.items n c.index-class.result.now its.number_within c.index-class.ensures 0 in
+    subst (λ (z : ℕ). z < length c.args.answers.now) (sym class_is) its.class_within
 
 pub loop-second-preserved : goal.loop-second-preserved
 loop-second-preserved c =
-    let starts = c.args.starts.now in
-    let places = c.args.places.now in
-    let first = c.args.first.now in
-    let old = c.loop-second.pairs.items in
-    let new = c.if-asks.pairs.items in
-    let whole = questions_at places c.args.pairs.now.items ++ asked_by first c.args.seconds.now in
+    let classes = c.args.classes.now in
+    let starts = classes.starts.items in
+    let places = classes.places.items in
+    let answers = c.args.answers.now in
+    let m = c.args.number in
+    let i = c.loop-second.second-index in
+    let mid = c.loop-second.listed in
+    let new = c.if-asks.listed in
+    let from = get_or_read places m c.index-first.result.now c.requires.number c.index-first.ensures no_place in
     elim c.if-asks.branch [
       | then-asks w ↦
-          let added = ap (λ (v : Vec PlacePair Global). v.items) w.pairs-is ∙ w.push_reserved.ensures.items in
-          let longer = ap (λ (v : Vec PlacePair Global). vec_len v) w.pairs-is ∙ w.push_reserved.ensures.len in
-          let as_wide = ap (λ (v : Vec PlacePair Global). vec_capacity v) w.pairs-is ∙ w.push_reserved.ensures.capacity in
-          let first_there : w.new.result.first < length places = omega (arith, c.requires.number, w.new.ensures.first) in
-          let second_there : w.new.result.second < length places = omega (arith, number-there starts places c.requires.few _ (c.requires.seconds c.loop-second.second-index _ (omega arith)) w.number_among.result w.number_among.ensures, w.new.ensures.second) in
+          let n = w.number_among-other.result in
+          let stands = c.requires.seconds i _ c.loop-second-test.true in
+          let n_is = rw w.deref.ensures.value at w.number_among-other.ensures in
+          let there = number-there starts places c.requires.few _ stands n n_is in
+          let class_is = get_or_read classes.numbers.items n w.index-class.result.now (c.requires.classes n there).number_within w.index-class.ensures 0 in
+          let pairs_longer = ap (λ (l : Listed). vec_len l.pairs) w.listed-is ∙ w.push_reserved.ensures.len in
+          let pairs_as_wide = ap (λ (l : Listed). vec_capacity l.pairs) w.listed-is ∙ w.push_reserved.ensures.capacity in
+          let numbers_longer = ap (λ (l : Listed). vec_len l.numbers) w.listed-is ∙ w.push_reserved-then-asks.ensures.len in
+          let numbers_as_wide = ap (λ (l : Listed). vec_capacity l.numbers) w.listed-is ∙ w.push_reserved-then-asks.ensures.capacity in
           record {
-            questions =
-                asked-yes (questions_at places old) (questions_at places new) whole first c.loop-second.second-index c.args.seconds.now _ (omega arith) (sym c.asks.ensures ∙ w.if-asks.true)
-                (given-pushed (question_at places) old new w.new.result _ added
-                (pair-question places first _ w.new.result c.args.number w.number_among.result w.new.ensures.first w.new.ensures.second c.requires.first
-                (number-is starts places c.requires.few _ (c.requires.seconds c.loop-second.second-index _ (omega arith)) w.number_among.result w.number_among.ensures)))
-                c.loop-second.invariant.questions;
-            within =
-                subst (λ (l : List PlacePair). All (HasPlaces places) l) (sym added)
-                (All-push (HasPlaces places) old w.new.result c.loop-second.invariant.within (record { first_within = first_there; second_within = second_there }));
-            room = omega (arith, longer, as_wide, c.loop-second.invariant.room);
+            added =
+                adds-yes classes m answers c.args.listed.now mid new i c.args.seconds.now _ c.loop-second-test.true c.loop-second.invariant.added c.index-first.result.now from w.new.result n w.number_at.result (sym c.asks.ensures ∙ w.if-asks.true)
+                (ap (λ (l : Listed). l.pairs.items) w.listed-is ∙ w.push_reserved.ensures.items)
+                (ap (λ (l : Listed). l.numbers.items) w.listed-is ∙ w.push_reserved-then-asks.ensures.items)
+                w.new.ensures.first w.new.ensures.second c.requires.number there
+                (number-is starts places c.requires.few _ stands n n_is)
+                (w.number_at.ensures ∙ ap (λ (z : ℕ). get_or answers z 0) class_is);
+            room_of_pairs = omega (arith, c.loop-second.invariant.room_of_pairs, pairs_longer, pairs_as_wide);
+            room_of_numbers = omega (arith, c.loop-second.invariant.room_of_numbers, numbers_longer, numbers_as_wide);
           }
       | else-asks w ↦ record {
-        questions =
-            asked-no (questions_at places old) (questions_at places new) whole first c.loop-second.second-index c.args.seconds.now _ (omega arith) (sym c.asks.ensures ∙ w.if-asks.false)
-            (ap (λ (v : Vec PlacePair Global). questions_at places v.items) w.pairs-is) c.loop-second.invariant.questions;
-        within = subst (λ (v : Vec PlacePair Global). All (HasPlaces places) v.items) (sym w.pairs-is) c.loop-second.invariant.within;
-        room =
-            omega (arith, ap (λ (v : Vec PlacePair Global). vec_len v) w.pairs-is, ap (λ (v : Vec PlacePair Global). vec_capacity v) w.pairs-is, c.loop-second.invariant.room);
+        added = adds-no classes m answers c.args.listed.now mid new i c.args.seconds.now _ c.loop-second-test.true c.loop-second.invariant.added c.index-first.result.now from (sym c.asks.ensures ∙ w.if-asks.false) w.listed-is;
+        room_of_pairs = omega (arith, ap (λ (l : Listed). vec_len l.pairs) w.listed-is, ap (λ (l : Listed). vec_capacity l.pairs) w.listed-is, c.loop-second.invariant.room_of_pairs);
+        room_of_numbers = omega (arith, ap (λ (l : Listed). vec_len l.numbers) w.listed-is, ap (λ (l : Listed). vec_capacity l.numbers) w.listed-is, c.loop-second.invariant.room_of_numbers);
       }
     ]
-
-pub returns-clause-questions : goal.returns-clause-questions
-returns-clause-questions c =
-    nothing-left (asked_by c.args.first.now) (questions_at c.args.places.now c.loop-second.pairs.items) (questions_at c.args.places.now c.args.pairs.now.items ++ asked_by c.args.first.now c.args.seconds.now) (drop c.loop-second.second-index c.args.seconds.now) refl
-    (drop_all c.loop-second.second-index c.args.seconds.now (omega arith)) c.loop-second.invariant.questions

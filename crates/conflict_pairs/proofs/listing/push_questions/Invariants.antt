@@ -1,14 +1,11 @@
-use Rattle.std.proofs.Common.{◌≡◌, ◌≤◌, ◌+◌, ◌++◌, drop, length, vec_len, vec_capacity}
-use Rattle.std.specs.Prelude.{All}
-use Rattle.prog_paths.specs.Questions.{asked_by}
-use Rattle.conflict_pairs.specs.Pairing.{HasPlaces, questions_at}
+use Rattle.std.proofs.Common.{◌≤◌, ◌+◌, length, take, vec_len, vec_capacity}
+use Rattle.conflict_pairs.specs.Listed.{AddsQuestions}
 use Rattle.conflict_pairs.proofs.listing.push_questions.Given as goal
 
--- the questions so far, with those to the places that are left, for each of which there is room
+-- the questions to the places so far are added, and for each of those that are left there is room
 abbrev pub invariant-loop-second : goal.invariant-loop-second
 invariant-loop-second l = record {
-  questions : questions_at l.places l.pairs.items ++ asked_by l.first (drop l.second-index l.seconds)
-      ≡ questions_at l.places l.fn.pairs.items ++ asked_by l.first l.seconds;
-  within : All (HasPlaces l.places) l.pairs.items;
-  room : vec_len l.pairs + length l.seconds ≤ vec_capacity l.pairs + l.second-index;
+  added : AddsQuestions l.classes l.number l.answers l.fn.listed l.listed (take l.second-index l.seconds);
+  room_of_pairs : vec_len l.listed.pairs + length l.seconds ≤ vec_capacity l.listed.pairs + l.second-index;
+  room_of_numbers : vec_len l.listed.numbers + length l.seconds ≤ vec_capacity l.listed.numbers + l.second-index;
 }

@@ -5,13 +5,12 @@ use Rattle.prog_check.specs.Paths.{paths_of}
 use Rattle.prog_paths.specs.Questions.{questions_of}
 use Rattle.prog_paths.specs.Limits.{most_questions}
 use Rattle.prog_paths.specs.Few.{AreFew}
-use Rattle.conflict_pairs.specs.Table.{StandsFor}
 use Rattle.si_repair.specs.Findings.{IsRightFinding}
 use Rattle.si_repair.proofs.Analysing.{all_single, in_limit}
 use Rattle.si_repair.proofs.analysis.certify_par.Goals as goal
 
-pub pairs_par-requires-clause-single : goal.pairs_par-requires-clause-single
-pairs_par-requires-clause-single g c _ _ = all_single _ _ c.deref.ensures.value c.in_ok-paths.ensures.single
+pub class_table_par-requires-clause-single : goal.class_table_par-requires-clause-single
+class_table_par-requires-clause-single g c _ _ = all_single _ _ c.deref.ensures.value c.in_ok-paths.ensures.single
 
 pub finding_of-requires : goal.finding_of-requires
 finding_of-requires g c =
@@ -20,7 +19,7 @@ finding_of-requires g c =
     let again = sym c.deref-2.ensures.value in
     let in_bounds = in_limit _ paths (seen ∙ c.in_ok-paths.ensures.exact) (λ over. let e = c.in_ok-table.ensures.too_large.1 over in absurd (cc)) in
     record {
-      stands = subst (λ (l : List Path). StandsFor c.in_ok-table.table l) (seen ∙ again) c.in_ok-table.ensures.table;
+      paths = c.in_ok-table.ensures.paths ∙ seen ∙ again;
       few = subst (λ (l : List Path). AreFew l) again c.in_ok-paths.ensures.few;
       in_bounds = subst (λ (l : List Path). length (questions_of l) ≤ most_questions) (sym c.in_ok-paths.ensures.exact ∙ again) in_bounds;
     }

@@ -1,7 +1,6 @@
 use Rattle.std.proofs.Common.{◌<◌, List, length, sym, subst}
 use Rattle.prog_check.specs.declared.path.Path.{Path}
 use Rattle.prog_paths.specs.StaticGraph.{StaticEdge, Leads}
-use Rattle.conflict_pairs.specs.Table.{Table, StandsFor}
 use Rattle.dep_graph.specs.Counting.{IsCountOf}
 use Rattle.dep_graph.proofs.Laws.{level-right}
 use Rattle.dep_graph.proofs.graph.Graph.level.Goals as goal
@@ -10,5 +9,5 @@ pub returns : goal.returns
 returns c =
     let g = c.self.inside in
     let x = c.args.x in
-    let inside = subst (λ (t : Table). x < t.nodes) (sym c.self.view_is) c.requires in
-    subst (λ (t : Table). (paths : List Path) → StandsFor t paths → IsCountOf (λ u. Leads (StaticEdge paths) u x) (length paths) c.column_count.result) c.self.view_is (λ paths s. level-right g.table.now g.edges g.vulnerable g.reach c.self.invariant paths s x c.column_count.result inside c.column_count.ensures.count)
+    let inside = subst (λ (paths : List Path). x < length paths) (sym c.self.view_is) c.requires in
+    subst (λ (paths : List Path). IsCountOf (λ u. Leads (StaticEdge paths) u x) (length paths) c.column_count.result) c.self.view_is (level-right g.paths.now g.edges g.vulnerable g.reach c.self.invariant x c.column_count.result inside c.column_count.ensures.count)

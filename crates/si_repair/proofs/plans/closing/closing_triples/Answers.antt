@@ -1,12 +1,10 @@
-use Rattle.std.proofs.Common.{List, sym, subst, arith}
-use Rattle.prog_check.specs.declared.path.Path.{Path}
-use Rattle.conflict_pairs.specs.Table.{StandsFor}
+use Rattle.std.proofs.Common.{sym, subst, ◌∙◌, arith}
 use Rattle.si_repair.specs.Planning.{NodesBy, ClosesFrom, AddsTriples}
 use Rattle.si_repair.proofs.Closings.{AreClosingBelow, all-more}
 use Rattle.si_repair.proofs.plans.closing.closing_triples.Goals as goal
 
 pub push_from-requires-clause-graph : goal.push_from-requires-clause-graph
-push_from-requires-clause-graph c = subst (λ (paths : List Path). StandsFor c.args.graph.now paths) (sym c.in_ok-nodes.ensures.paths) c.requires
+push_from-requires-clause-graph c = c.requires ∙ sym c.in_ok-nodes.ensures.paths
 
 pub loop-first-preserved : goal.loop-first-preserved
 loop-first-preserved c =

@@ -10,8 +10,8 @@ use Rattle.si_repair.proofs.Analysing.{all_single}
 use Rattle.si_repair.proofs.Turns.{in_range, planned}
 use Rattle.si_repair.proofs.plans.planning.plan.Goals as goal
 
-pub pairs-requires : goal.pairs-requires
-pairs-requires c = record {
+pub class_table-requires : goal.class_table-requires
+class_table-requires c = record {
   single = all_single _ _ c.deref.ensures.value c.in_ok-paths.ensures.single;
 }
 

@@ -1,0 +1,103 @@
+//! Pairs of classes of which one asks something of the other.
+ghost use Rattle.std.specs.Prelude.{◌≡◌, ◌<◌, ◌≤◌, ◌+◌, ◌^◌, length, All, IfOk, vec_len, vec_capacity};
+ghost use Rattle.conflict_pairs.specs.ClassPairs.{AddsRow, AreClassPairs, AreLastPlaces};
+ghost use Rattle.conflict_pairs.specs.Classes.{AreClassesOf};
+ghost use Rattle.conflict_pairs.specs.Pairing.{StandsAt, place_at};
+
+use crate::classes::AccessClasses;
+use crate::interning::number_at;
+use crate::pairing::{PlacePair, number_among};
+use prog_check::Path;
+use prog_paths::{Changers, Placed, asks};
+use std::alloc::{AllocError, Global};
+
+/// A part of a list: from `start` on, up to `end`.
+#[derive(Clone, Copy)]
+pub struct Row {
+    pub start: usize,
+    pub end: usize,
+}
+
+/// The pairs of classes of which one asks something of the other, each by the first access of the
+/// one and the last of the other: these ask it if any two do. And for each class its row of pairs.
+#[derive(Drop)]
+pub struct ClassPairs {
+    pub pairs: Vec<PlacePair>,
+    pub rows: Vec<Row>,
+}
+
+/// The accesses that are the last of their class.
+fn last_places(alloc: Global, classes: &AccessClasses) -> Result<Vec<Placed>, AllocError>
+    requires one_each { length classes.now.numbers.items
+        ≡ length classes.now.places.items }
+    requires within { All (λ c. c < length classes.now.lasts.items) classes.now.numbers.items }
+    ensures { IfOk result (λ places. AreLastPlaces classes.now places.items) }
+{
+    let mut places = Vec::new(alloc);
+    for (n, place) in classes.places.iter().enumerate() {
+        if number_at(&classes.lasts, classes.numbers[n]) as usize == n {
+            places.push(*place)?;
+        }
+    }
+    Ok(places)
+}
+
+/// Adds what the access of a number asks of each, by the numbers of both among all.
+fn push_row(
+    places: &[Placed],
+    starts: &[usize],
+    number: usize,
+    first: &Placed,
+    seconds: &[Placed],
+    pairs: &mut Vec<PlacePair>,
+)
+    requires few { length places.now ≤ 2 ^ 32 }
+    requires number { number < length places.now }
+    requires first { place_at places.now number ≡ first.now }
+    requires seconds { All (StandsAt starts.now places.now) seconds.now }
+    requires room { vec_len pairs.old + length seconds.now ≤ vec_capacity pairs.old }
+    ensures { AddsRow places.now number seconds.now pairs.old.items pairs.new.items }
+{
+    for second in seconds {
+        if asks(first, second) {
+            pairs.push_reserved(PlacePair::new(number, number_among(starts, second)));
+        }
+    }
+}
+
+/// All pairs of classes of which one asks something of the other. Only the changers of a class's
+/// table are looked through.
+pub fn class_pairs(
+    alloc: Global,
+    paths: &[Path],
+    classes: &AccessClasses,
+) -> Result<ClassPairs, AllocError>
+    requires { AreClassesOf paths.now classes.now }
+    ensures { IfOk result (AreClassPairs paths.now classes.now) }
+{
+    let lasts = last_places(alloc, classes)?;
+    let changers = Changers::of(alloc, &lasts)?;
+    let mut pairs = Vec::new(alloc);
+    let none = Row { start: 0, end: 0 };
+    let mut rows = vec![in alloc; none; classes.firsts.len()]?;
+    for (n, first) in classes.places.iter().enumerate() {
+        let class = classes.numbers[n];
+        if number_at(&classes.firsts, class) as usize != n {
+            continue;
+        }
+        let start = pairs.len();
+        let seconds = changers.of_table(first.access.table);
+        pairs.reserve(seconds.len())?;
+        push_row(
+            &classes.places,
+            &classes.starts,
+            n,
+            first,
+            seconds,
+            &mut pairs,
+        );
+        let end = pairs.len();
+        rows[class as usize] = Row { start, end };
+    }
+    Ok(ClassPairs { pairs, rows })
+}

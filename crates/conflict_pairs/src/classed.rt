@@ -1,0 +1,174 @@
+//! What is told of all questions of a list of paths, class by class.
+ghost use Rattle.std.specs.Prelude.{◌≡◌, ◌↔◌, ◌<◌, [], length, All, IfOk, Err, IsTrue, Some, slice_get};
+ghost use Rattle.prog_paths.specs.Questions.{ChangesSingleCells, questions_of};
+ghost use Rattle.prog_paths.specs.Limits.{most_questions};
+ghost use Rattle.conflict_pairs.specs.Classed.{AnswersAll, AreClassesJudged, ClassAnswer};
+ghost use Rattle.conflict_pairs.specs.Classes.{AreClassesOf};
+ghost use Rattle.conflict_pairs.specs.ClassPairs.{AreClassPairs};
+ghost use Rattle.conflict_pairs.specs.Table.{StandsFor};
+ghost use Rattle.conflict_pairs.specs.declared.fault.PairFault as PairFault;
+
+use crate::class_pairs::{ClassPairs, class_pairs};
+use crate::classes::{AccessClasses, classes_of};
+use crate::fault::PairFault;
+use crate::interning::{Interned, number_at};
+use crate::judge::verdicts_of;
+use crate::listing::table_of;
+use crate::parallel::verdicts_par;
+use crate::table::PairTable;
+use crate::verdicts::Verdict;
+use prog_check::{Kind, Path};
+use prog_paths::{MAX_QUESTIONS, question_count};
+use std::alloc::{AllocError, Global};
+use std::marker::Model;
+use std::thread::Threads;
+
+/// What is told of all questions of a list of paths. Many accesses are alike, so it is told once
+/// for each two classes of them.
+#[derive(Drop)]
+pub struct ClassTable<'a> {
+    paths: &'a [Path],
+    classes: AccessClasses,
+    asked: ClassPairs,
+    // The verdicts on the pairs, and for each the number of its own.
+    judged: Interned<Verdict>,
+}
+
+impl<'a> Model for ClassTable<'a> {
+    ghost use Rattle.conflict_pairs.specs.Classed.{AreClassesJudged, Classed, answers_by};
+
+    ghost Value = { Classed };
+
+    ghost view = { λ t. record {
+      paths = t.paths.now;
+      answers = answers_by t.classes t.judged.values.items t.asked.pairs.items
+          t.judged.numbers.items;
+    } };
+
+    ghost invariant = { λ t. AreClassesJudged t.paths.now t.classes t.asked t.judged };
+}
+
+/// The classes of the accesses of some paths, and which ask something of each other. The questions
+/// are counted before any memory is taken.
+fn asked_classes(alloc: Global, paths: &[Path]) -> Result<(AccessClasses, ClassPairs), PairFault>
+    ensures classes { IfOk result (λ told. AreClassesOf paths.now told.0) }
+    ensures pairs { IfOk result (λ told. AreClassPairs paths.now told.0 told.1) }
+    ensures too_large { (result ≡ Err PairFault.TooLarge)
+        ↔ (most_questions < length (questions_of paths.now)) }
+{
+    if question_count(paths) > MAX_QUESTIONS {
+        return Err(PairFault::TooLarge);
+    }
+    let classes = classes_of(alloc, paths)?;
+    let asked = class_pairs(alloc, paths, &classes)?;
+    Ok((classes, asked))
+}
+
+/// What is told of all questions of some paths. They are counted before any memory is taken.
+pub fn class_table(alloc: Global, paths: &[Path]) -> Result<ClassTable<'_>, PairFault>
+    requires single { All ChangesSingleCells paths.now }
+    ensures paths { IfOk result (λ table. table.paths ≡ paths.now) }
+    ensures too_large { (result ≡ Err PairFault.TooLarge)
+        ↔ (most_questions < length (questions_of paths.now)) }
+{
+    let (classes, asked) = asked_classes(alloc, paths)?;
+    let judged = verdicts_of(alloc, paths, &classes.places, &asked.pairs)?;
+    Ok(ClassTable {
+        paths,
+        classes,
+        asked,
+        judged,
+    })
+}
+
+/// The same by several threads, where there is much to judge.
+pub fn class_table_par<'a>(
+    rt: &(impl Threads + Sync),
+    alloc: Global,
+    paths: &'a [Path],
+) -> Result<ClassTable<'a>, PairFault>
+    requires single { All ChangesSingleCells paths.now }
+    ensures paths { IfOk result (λ table. table.paths ≡ paths.now) }
+    ensures too_large { (result ≡ Err PairFault.TooLarge)
+        ↔ (most_questions < length (questions_of paths.now)) }
+{
+    let (classes, asked) = asked_classes(alloc, paths)?;
+    let judged = verdicts_par(rt, alloc, paths, &classes.places, &asked.pairs)?;
+    Ok(ClassTable {
+        paths,
+        classes,
+        asked,
+        judged,
+    })
+}
+
+impl<'a> ClassTable<'a> {
+    /// The paths, each of whose questions it answers.
+    pub fn paths(&self) -> &'a [Path]
+        ensures paths { result.now ≡ self.now.paths }
+        ensures all { AnswersAll self.now }
+    {
+        self.paths
+    }
+
+    /// How many pairs of classes there are.
+    pub fn len(&self) -> usize
+        ensures { result ≡ length self.now.answers }
+    {
+        self.asked.pairs.len()
+    }
+
+    pub fn is_empty(&self) -> bool
+        ensures { IsTrue result ↔ (self.now.answers ≡ []) }
+    {
+        self.len() == 0
+    }
+
+    /// The kinds of the accesses of the pair of a number.
+    pub fn kinds(&self, n: usize) -> (Kind, Kind)
+        requires { n < length self.now.answers }
+        ensures { (e : ClassAnswer) → slice_get self.now.answers n ≡ Some e
+            → (result.0 ≡ e.mine) × (result.1 ≡ e.theirs) }
+    {
+        let pair = self.asked.pairs[n];
+        let first = &self.classes.places[pair.first as usize];
+        let second = &self.classes.places[pair.second as usize];
+        (first.access.kind, second.access.kind)
+    }
+
+    /// The nodes that have an access of its first class.
+    pub fn first_nodes(&self, n: usize) -> &[usize]
+        requires { n < length self.now.answers }
+        ensures { (e : ClassAnswer) → slice_get self.now.answers n ≡ Some e
+            → result.now ≡ e.firsts }
+    {
+        let class = number_at(&self.classes.numbers, self.asked.pairs[n].first);
+        &self.classes.nodes[class as usize]
+    }
+
+    /// The nodes that have an access of its second class.
+    pub fn second_nodes(&self, n: usize) -> &[usize]
+        requires { n < length self.now.answers }
+        ensures { (e : ClassAnswer) → slice_get self.now.answers n ≡ Some e
+            → result.now ≡ e.seconds }
+    {
+        let class = number_at(&self.classes.numbers, self.asked.pairs[n].second);
+        &self.classes.nodes[class as usize]
+    }
+
+    /// The verdict on each access of its first class against each of its second.
+    pub fn verdict(&self, n: usize) -> &Verdict
+        requires { n < length self.now.answers }
+        ensures { (e : ClassAnswer) → slice_get self.now.answers n ≡ Some e
+            → result.now ≡ e.verdict }
+    {
+        &self.judged.values[self.judged.numbers[n] as usize]
+    }
+
+    /// All questions of the paths in order, with their verdicts.
+    pub fn listed(self, alloc: Global) -> Result<PairTable, AllocError>
+        ensures { IfOk result (λ table. StandsFor table self.entry.paths) }
+    {
+        table_of(alloc, self.paths, self.classes, self.asked, self.judged)
+    }
+}
