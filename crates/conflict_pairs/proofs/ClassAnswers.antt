@@ -22,7 +22,7 @@ use Rattle.conflict_pairs.specs.declared.pairing.PlacePair.{PlacePair}
 use Rattle.conflict_pairs.specs.declared.verdicts.Verdict.{Verdict}
 use Rattle.conflict_pairs.specs.declared.verdicts.Verdict.TheVariants.{Apart}
 use Rattle.conflict_pairs.specs.Alike.{IsAsked, IsJudgedAt}
-use Rattle.conflict_pairs.specs.Classed.{ClassAnswer, IsRightOfEach, HaveVerdict, IsAnswerTo, IsAnswered, AnswersAll, answer_by, answers_by, AreClassesJudged}
+use Rattle.conflict_pairs.specs.Classed.{ClassAnswer, IsRightOfEach, HaveVerdict, IsAnswerTo, IsAnswered, AnswersAll, answer_by, answers_by, AreClassesJudged, classed_by}
 use Rattle.conflict_pairs.specs.Classes.{HasAccessOf, class_at, nodes_at, nodes_in, starts_from}
 use Rattle.conflict_pairs.specs.ClassPairs.{IsPairOf}
 use Rattle.conflict_pairs.specs.Interning.{IsServed}
@@ -155,7 +155,7 @@ module _ (paths : List Path) (k : AccessClasses) (ps : ClassPairs) (judged : Int
     asks-them : asks (place_at L m) (place_at L n) ≡ true
     asks-them = (λ i. asks (m-is i) (n-is i)) ∙ asked.asks_it
 
-    answered-by : (j : ℕ) → IsPairOf k ps.pairs.items (class_at k m) (class_at k n) j → IsAnswered (record { paths = paths; answers = answers_by k vs ps.pairs.items judged.numbers.items }) q
+    answered-by : (j : ℕ) → IsPairOf k ps.pairs.items (class_at k m) (class_at k n) j → IsAnswered (classed_by paths k ps judged) q
     answered-by j p = record {
       answer = answer_by k vs p.pair number;
       told = contains_at (answers_by k vs ps.pairs.items judged.numbers.items) j (answer_by k vs p.pair number) (answers-at k vs ps.pairs.items judged.numbers.items j p.pair long p.at);
@@ -196,7 +196,7 @@ module _ (paths : List Path) (k : AccessClasses) (ps : ClassPairs) (judged : Int
         here : question_between (place_at L m) (place_at L n) ≡ q
         here = (λ i. question_between (m-is i) (n-is i)) ∙ sym asked.is
 
-  pub answers-all : AnswersAll (record { paths = paths; answers = answers_by k vs ps.pairs.items judged.numbers.items })
+  pub answers-all : AnswersAll (classed_by paths k ps judged)
   answers-all = record {
     single = h.single;
     right = answers-right ps.pairs.items judged.numbers.items h.pairs.asked h.on_pairs.served;

@@ -249,15 +249,6 @@ module _ (paths : List Path) (k : AccessClasses) (h : AreClassesOf paths k) wher
 
   -- ---- rows, one more at a time
 
-  pub rows-none : (list : List Row) → length list ≡ length k.firsts.items → ((c : ℕ) → row_at list c ≡ record { start = 0; end = 0 }) → AreRowsSoFar k paths [] list 0
-  rows-none list sized empty = record {
-    sized = sized;
-    ends = λ c. let e = ap (λ (r : Row). r.end) (empty c) in omega (arith, e);
-    asked = All-nil (IsAskedBetween paths L);
-    own = λ c j i. let e = ap (λ (r : Row). r.end) (empty c) in let lt = i.before in absurd (omega (arith, e, lt));
-    whole = λ m l lt. absurd (omega (arith, lt));
-  }
-
   -- an access that is not the first of its class
   pub rows-skip : (pairs : List PlacePair) (rows : List Row) (n : ℕ) → (first_of n ≡ n → ⊥) → AreRowsSoFar k paths pairs rows n → AreRowsSoFar k paths pairs rows (n + 1)
   rows-skip pairs rows n other r = record {

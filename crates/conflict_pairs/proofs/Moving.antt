@@ -13,7 +13,7 @@ use Rattle.prog_paths.specs.declared.accesses.places.Placed.{Placed}
 use Rattle.prog_paths.specs.declared.accesses.questions.Question.{Question}
 use Rattle.conflict_pairs.specs.declared.verdicts.Verdict.{Verdict}
 use Rattle.conflict_pairs.specs.declared.verdicts.Verdict.TheVariants.{Apart, Covered, Exposed}
-use Rattle.prog_paths.specs.Questions.{Asks, IsQuestion, ChangesSingleCells, two, between, asks, kinds_depend, both_write, is_in_order, numbers_of}
+use Rattle.prog_paths.specs.Questions.{Asks, IsQuestion, ChangesSingleCells, two, between, asks, kinds_depend, both_write, is_in_order}
 use Rattle.conflict_pairs.specs.Alike.{IsAsked}
 use Rattle.conflict_pairs.specs.Verdicts.{IsCoveredBy, IsRightOf, IsRight, TellsExposed}
 use Rattle.prog_paths.specs.Places.{IsAt}
@@ -42,21 +42,8 @@ asked_between a b first second e =
 path_is : (paths : List Path) (p : Placed) (d : Path) → (at : IsAt paths p) → get_or paths p.node d ≡ at.0
 path_is paths p d at = get_or_from_slice_get paths p.node at.0 d at.1
 
-pub node_within : (paths : List Path) (p : Placed) → IsAt paths p → p.node < length paths
+node_within : (paths : List Path) (p : Placed) → IsAt paths p → p.node < length paths
 node_within paths p at = slice_get_within paths p.node at.0 at.1
-
-pub number_at : (paths : List Path) (p : Placed) (path : Path) → path ≡ get_or paths p.node path → IsAt paths p → slice_get path.accesses p.number ≡ Some p.access
-number_at paths p path is at = subst (λ (z : Path). slice_get z.accesses p.number ≡ Some p.access) (sym (is ∙ path_is paths p path at)) at.2
-
-pub IsQuestion-between : (paths : List Path) (first second : Placed) (x y : Path) → IsAt paths first → IsAt paths second → asks first second ≡ true → x ≡ get_or paths first.node x → y ≡ get_or paths second.node y → IsQuestion (two x y) (between first.number second.number)
-IsQuestion-between paths first second x y at_first at_second e is_x is_y =
-    let asked = asked_between first.number second.number first second e in
-    record {
-      mine = first.access;
-      theirs = second.access;
-      asked = record { at_mine = (x, refl, number_at paths first x is_x at_first); at_theirs = (y, refl, number_at paths second y is_y at_second); table = asked.0 };
-      asks = asked.1;
-    }
 
 pub single_of : (paths : List Path) (p : Placed) (path : Path) → All ChangesSingleCells paths → IsAt paths p → path ≡ get_or paths p.node path → ChangesSingleCells path
 single_of paths p path h at is = subst ChangesSingleCells (sym is) (h p.node path (node_within paths p at))
@@ -133,25 +120,3 @@ IsRight-placed paths first second x y at_first at_second is_x is_y v h =
     IsRight-there paths x y first.node first.number second.node second.number
     (at_first.1 ∙ ap Some (sym (is_x ∙ path_is paths first x at_first)))
     (at_second.1 ∙ ap Some (sym (is_y ∙ path_is paths second y at_second))) v h
-
--- ---- the same of a question that is asked
-
-module _ (paths : List Path) (q : Question) (asked : IsAsked paths q) where
-  pub single-first : (path : Path) → All ChangesSingleCells paths → path ≡ get_or paths q.x path → ChangesSingleCells path
-  single-first path h is = single_of paths asked.first path h asked.at_first (is ∙ ap (λ (r : Question). get_or paths r.x path) asked.is)
-
-  pub single-second : (path : Path) → All ChangesSingleCells paths → path ≡ get_or paths q.y path → ChangesSingleCells path
-  single-second path h is = single_of paths asked.second path h asked.at_second (is ∙ ap (λ (r : Question). get_or paths r.y path) asked.is)
-
-  pub IsQuestion-asked : (x y : Path) → x ≡ get_or paths q.x x → y ≡ get_or paths q.y y → IsQuestion (two x y) (between q.a q.b)
-  IsQuestion-asked x y is_x is_y =
-      subst (λ (r : Question). IsQuestion (two x y) (between r.a r.b)) (sym asked.is)
-      (IsQuestion-between paths asked.first asked.second x y asked.at_first asked.at_second asked.asks_it
-      (is_x ∙ ap (λ (r : Question). get_or paths r.x x) asked.is) (is_y ∙ ap (λ (r : Question). get_or paths r.y y) asked.is))
-
-  pub IsRight-asked : (x y : Path) → x ≡ get_or paths q.x x → y ≡ get_or paths q.y y → (v : Verdict) → IsRight (two x y) (between q.a q.b) v → IsRight paths (numbers_of q) v
-  IsRight-asked x y is_x is_y v h =
-      subst (λ (r : Question). IsRight paths (numbers_of r) v) (sym asked.is)
-      (IsRight-placed paths asked.first asked.second x y asked.at_first asked.at_second
-      (is_x ∙ ap (λ (r : Question). get_or paths r.x x) asked.is) (is_y ∙ ap (λ (r : Question). get_or paths r.y y) asked.is) v
-      (subst (λ (r : Question). IsRight (two x y) (between r.a r.b) v) asked.is h))

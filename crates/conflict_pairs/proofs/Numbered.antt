@@ -92,9 +92,9 @@ module _ (paths : List Path) (vs : List Verdict) where
       (entries-right single qs ns (All-tail (IsAsked paths) q qs h) k.1)
 
   -- the table of all questions
-  pub StandsFor-from : All ChangesSingleCells paths → All (IsOnAsked paths) vs → (table : Table) (qs : List Question) (ns : List ℕ) → All (IsAsked paths) qs → AllZip (IsServed (IsJudgedAt paths) vs) qs ns → table.nodes ≡ length paths → table.verdicts ≡ vs → table.entries ≡ entries_of vs qs ns → qs ≡ questions_of paths → StandsFor table paths
-  StandsFor-from single sound table qs ns h k nodes verdicts entries all = record {
-    nodes = nodes;
+  pub StandsFor-from : All ChangesSingleCells paths → All (IsOnAsked paths) vs → (table : Table) (qs : List Question) (ns : List ℕ) → All (IsAsked paths) qs → AllZip (IsServed (IsJudgedAt paths) vs) qs ns → table.paths ≡ paths → table.verdicts ≡ vs → table.entries ≡ entries_of vs qs ns → qs ≡ questions_of paths → StandsFor table paths
+  StandsFor-from single sound table qs ns h k same verdicts entries all = record {
+    of_paths = same;
     questions = ap (map (λ (e : Judged). e.question)) entries ∙ entries-questions vs qs ns (AllZip-lengths (IsServed (IsJudgedAt paths) vs) qs ns k) ∙ all;
     right = subst (λ (l : List Judged). All (λ e. IsRightEntry paths e) l) (sym entries) (entries-right single qs ns h k);
     verdicts = subst (λ (l : List Verdict). All (IsOnQuestion paths) l) (sym verdicts) (verdicts-right paths single vs sound);

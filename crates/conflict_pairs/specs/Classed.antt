@@ -6,6 +6,7 @@ use Rattle.prog_check.specs.declared.path.Path.{Path}
 use Rattle.prog_paths.specs.StaticGraph.{QuestionNumbers, AsksOf}
 use Rattle.prog_paths.specs.Questions.{ChangesSingleCells, numbers_of}
 use Rattle.prog_paths.specs.Listing.{IsAskedOf}
+use Rattle.prog_paths.specs.declared.accesses.places.Placed.{Placed}
 use Rattle.prog_paths.specs.declared.accesses.questions.Question.{Question}
 use Rattle.conflict_pairs.specs.declared.classes.AccessClasses.{AccessClasses}
 use Rattle.conflict_pairs.specs.declared.class_pairs.ClassPairs.{ClassPairs}
@@ -28,9 +29,12 @@ pub record ClassAnswer : Type 0 where
   pub seconds : List ℕ
   pub verdict : Verdict
 
--- a list of paths, and what is told of their questions
+-- a list of paths with their accesses, the verdicts on some of their questions, and what is told of all, each time by
+-- one of these verdicts
 pub record Classed : Type 0 where
   pub paths : List Path
+  pub places : List Placed
+  pub verdicts : List Verdict
   pub answers : List ClassAnswer
 
 -- ---- when that is all
@@ -89,6 +93,15 @@ abbrev pub answers_by : AccessClasses → List Verdict → List PlacePair → Li
 answers_by k verdicts [] numbers = []
 answers_by k verdicts (pair ∷ pairs) [] = []
 answers_by k verdicts (pair ∷ pairs) (n ∷ numbers) = answer_by k verdicts pair n ∷ answers_by k verdicts pairs numbers
+
+-- all that is told
+abbrev pub classed_by : List Path → AccessClasses → ClassPairs → Interned Verdict → Classed
+classed_by paths k ps judged = record {
+  paths = paths;
+  places = k.places.items;
+  verdicts = judged.values.items;
+  answers = answers_by k judged.values.items ps.pairs.items judged.numbers.items;
+}
 
 -- the classes of the accesses of the paths, the pairs of them that ask something, and the verdicts on these
 pub record AreClassesJudged (paths : List Path) (k : AccessClasses) (ps : ClassPairs) (judged : Interned Verdict) : Type 0 where

@@ -1,5 +1,5 @@
 -- A table of questions with their verdicts, and which paths it stands for.
-use Rattle.std.specs.Prelude.{◌≡◌, ℕ, List, [], ◌∷◌, length, map, All, slice_index_or}
+use Rattle.std.specs.Prelude.{◌≡◌, ℕ, List, [], ◌∷◌, map, All, slice_index_or}
 use Rattle.prog_check.specs.declared.path.Path.{Path}
 use Rattle.conflict_pairs.specs.declared.verdicts.Verdict.{Verdict}
 use Rattle.conflict_pairs.specs.declared.verdicts.Verdict.TheVariants.{Apart}
@@ -13,9 +13,9 @@ pub record Judged : Type 0 where
   pub question : Question
   pub verdict : Verdict
 
--- how many nodes there are, the verdicts that questions have, and the questions with their verdicts
+-- a list of paths, the verdicts that questions have, and the questions with their verdicts
 pub record Table : Type 0 where
-  pub nodes : ℕ
+  pub paths : List Path
   pub verdicts : List Verdict
   pub entries : List Judged
 
@@ -43,9 +43,9 @@ pub record IsOnQuestion (paths : List Path) (verdict : Verdict) : Type 0 where
   pub asked : IsAskedOf paths question
   pub right : IsRight paths (numbers_of question) verdict
 
--- the table has a node for each path, all questions of the paths in order, and a right verdict on each
+-- the table is one of these paths: it has all their questions in order, and a right verdict on each
 pub record StandsFor (table : Table) (paths : List Path) : Type 0 where
-  pub nodes : table.nodes ≡ length paths
+  pub of_paths : table.paths ≡ paths
   pub questions : map (λ e. e.question) table.entries ≡ questions_of paths
   pub right : All (λ e. IsRightEntry paths e) table.entries
   pub verdicts : All (IsOnQuestion paths) table.verdicts

@@ -9,16 +9,16 @@ ghost use Rattle.conflict_pairs.specs.Table.{StandsFor};
 ghost use Rattle.conflict_pairs.specs.declared.fault.PairFault as PairFault;
 
 use crate::class_pairs::{ClassPairs, class_pairs};
-use crate::classes::{AccessClasses, classes_of};
+use crate::classes::{AccessClasses, classes_of, nodes_like};
 use crate::fault::PairFault;
-use crate::interning::{Interned, number_at};
+use crate::interning::Interned;
 use crate::judge::verdicts_of;
-use crate::listing::table_of;
+use crate::listing::all_listed;
 use crate::parallel::verdicts_par;
 use crate::table::PairTable;
 use crate::verdicts::Verdict;
 use prog_check::{Kind, Path};
-use prog_paths::{MAX_QUESTIONS, question_count};
+use prog_paths::{MAX_QUESTIONS, Placed, question_count};
 use std::alloc::{AllocError, Global};
 use std::marker::Model;
 use std::thread::Threads;
@@ -35,15 +35,11 @@ pub struct ClassTable<'a> {
 }
 
 impl<'a> Model for ClassTable<'a> {
-    ghost use Rattle.conflict_pairs.specs.Classed.{AreClassesJudged, Classed, answers_by};
+    ghost use Rattle.conflict_pairs.specs.Classed.{AreClassesJudged, Classed, classed_by};
 
     ghost Value = { Classed };
 
-    ghost view = { λ t. record {
-      paths = t.paths.now;
-      answers = answers_by t.classes t.judged.values.items t.asked.pairs.items
-          t.judged.numbers.items;
-    } };
+    ghost view = { λ t. classed_by t.paths.now t.classes t.asked t.judged };
 
     ghost invariant = { λ t. AreClassesJudged t.paths.now t.classes t.asked t.judged };
 }
@@ -111,6 +107,20 @@ impl<'a> ClassTable<'a> {
         self.paths
     }
 
+    /// The accesses of the paths, one by one.
+    pub(crate) fn places(&self) -> &[Placed]
+        ensures { result.now ≡ self.now.places }
+    {
+        self.classes.places.as_slice()
+    }
+
+    /// The verdicts that are told, each maybe that of several pairs of classes.
+    pub(crate) fn verdicts(&self) -> &[Verdict]
+        ensures { result.now ≡ self.now.verdicts }
+    {
+        self.judged.values.as_slice()
+    }
+
     /// How many pairs of classes there are.
     pub fn len(&self) -> usize
         ensures { result ≡ length self.now.answers }
@@ -142,8 +152,7 @@ impl<'a> ClassTable<'a> {
         ensures { (e : ClassAnswer) → slice_get self.now.answers n ≡ Some e
             → result.now ≡ e.firsts }
     {
-        let class = number_at(&self.classes.numbers, self.asked.pairs[n].first);
-        &self.classes.nodes[class as usize]
+        nodes_like(&self.classes, self.asked.pairs[n].first)
     }
 
     /// The nodes that have an access of its second class.
@@ -152,8 +161,7 @@ impl<'a> ClassTable<'a> {
         ensures { (e : ClassAnswer) → slice_get self.now.answers n ≡ Some e
             → result.now ≡ e.seconds }
     {
-        let class = number_at(&self.classes.numbers, self.asked.pairs[n].second);
-        &self.classes.nodes[class as usize]
+        nodes_like(&self.classes, self.asked.pairs[n].second)
     }
 
     /// The verdict on each access of its first class against each of its second.
@@ -166,9 +174,10 @@ impl<'a> ClassTable<'a> {
     }
 
     /// All questions of the paths in order, with their verdicts.
-    pub fn listed(self, alloc: Global) -> Result<PairTable, AllocError>
+    pub fn listed(self, alloc: Global) -> Result<PairTable<'a>, AllocError>
         ensures { IfOk result (λ table. StandsFor table self.entry.paths) }
     {
-        table_of(alloc, self.paths, self.classes, self.asked, self.judged)
+        let listed = all_listed(alloc, self.paths, &self.classes, &self.asked, &self.judged)?;
+        Ok(PairTable::of(self, listed))
     }
 }

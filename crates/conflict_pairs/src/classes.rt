@@ -4,11 +4,11 @@ ghost use Rattle.std.specs.Prelude.{set, slice_index_or};
 ghost use Rattle.prog_paths.specs.Places.{all_from};
 ghost use Rattle.conflict_pairs.specs.Classes.{HasCoverClass, AreOneClass, AreNumbered};
 ghost use Rattle.conflict_pairs.specs.Classes.{AreFirsts, AreLasts, AreNodes, AreClassesOf};
-ghost use Rattle.conflict_pairs.specs.Classes.{starts_from, nodes_at};
+ghost use Rattle.conflict_pairs.specs.Classes.{class_at, starts_from, nodes_at};
 
 use crate::alike::{are_alike, cover_classes_of};
 use crate::hashes::{access_hash, mix};
-use crate::interning::{Interned, Interner, intern_all};
+use crate::interning::{Interned, Interner, intern_all, number_at};
 use crate::limits::MAX_PLACES;
 use prog_check::Path;
 use prog_paths::{Placed, all_places};
@@ -169,6 +169,16 @@ fn nodes_of(
         push_node(&mut nodes[numbers[n] as usize], places[n].node)?;
     }
     Ok(nodes)
+}
+
+/// The nodes that have an access of the class of this one, whose number among all is given.
+pub fn nodes_like(classes: &AccessClasses, access: u32) -> &[usize]
+    requires access { access < length classes.now.numbers.items }
+    requires class { class_at classes.now access < length classes.now.nodes.items }
+    ensures { result.now ≡ nodes_at classes.now.nodes.items (class_at classes.now access) }
+{
+    let class = number_at(&classes.numbers, access);
+    &classes.nodes[class as usize]
 }
 
 /// The accesses of a list of paths, and their classes.

@@ -83,7 +83,7 @@ fn push_questions(
 
 /// All questions between the accesses of the classes, with the numbers of their verdicts, by those
 /// of the pairs of classes.
-fn all_listed(
+pub fn all_listed(
     alloc: Global,
     paths: &[Path],
     classes: &AccessClasses,
@@ -112,24 +112,9 @@ fn all_listed(
     Ok(listed)
 }
 
-/// The table of all questions of some paths, by the verdicts on pairs of classes.
-pub fn table_of(
-    alloc: Global,
-    paths: &[Path],
-    classes: AccessClasses,
-    asked: ClassPairs,
-    judged: Interned<Verdict>,
-) -> Result<PairTable, AllocError>
-    requires { AreClassesJudged paths.now classes asked judged }
-    ensures { IfOk result (λ table. StandsFor table paths.now) }
-{
-    let Listed { pairs, numbers } = all_listed(alloc, paths, &classes, &asked, &judged)?;
-    Ok(PairTable::of(paths.len(), classes.places, pairs, numbers, judged.values))
-}
-
 /// All questions of the paths in order, with their verdicts. They are counted before any memory is
 /// taken.
-pub fn pairs(alloc: Global, paths: &[Path]) -> Result<PairTable, PairFault>
+pub fn pairs(alloc: Global, paths: &[Path]) -> Result<PairTable<'_>, PairFault>
     requires single { All ChangesSingleCells paths.now }
     ensures table { IfOk result (λ table. StandsFor table paths.now) }
     ensures too_large { (result ≡ Err PairFault.TooLarge)

@@ -130,11 +130,11 @@ pub fn verdicts_par(
 
 /// All questions of the paths in order, with their verdicts, as `pairs` gives them, by several
 /// threads where there are many. They are counted before any memory is taken.
-pub fn pairs_par(
+pub fn pairs_par<'a>(
     rt: &(impl Threads + Sync),
     alloc: Global,
-    paths: &[Path],
-) -> Result<PairTable, PairFault>
+    paths: &'a [Path],
+) -> Result<PairTable<'a>, PairFault>
     requires single { All ChangesSingleCells paths.now }
     ensures table { IfOk result (λ table. StandsFor table paths.now) }
     ensures too_large { (result ≡ Err PairFault.TooLarge)

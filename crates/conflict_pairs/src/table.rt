@@ -3,24 +3,22 @@ ghost use Rattle.std.specs.Prelude.{◌≡◌, ◌<◌, ◌↔◌, [], IsTrue, A
 ghost use Rattle.conflict_pairs.specs.Pairing.{HasPlaces, questions_at};
 ghost use Rattle.conflict_pairs.specs.Table.{Judged, entries_of};
 
-use crate::pairing::{PlacePair, question_of};
+use crate::classed::ClassTable;
+use crate::listing::Listed;
+use crate::pairing::question_of;
 use crate::verdicts::Verdict;
-use prog_paths::{Placed, Question};
+use prog_paths::Question;
 use std::marker::Model;
 
 /// All questions of a list of paths in order, with their verdicts.
 #[derive(Drop)]
-pub struct PairTable {
-    nodes: usize,
-    // All accesses of the nodes, and for each question which two of them it is between.
-    places: Vec<Placed>,
-    pairs: Vec<PlacePair>,
-    // For each question the number of its verdict, which may be that of several.
-    numbers: Vec<u32>,
-    verdicts: Vec<Verdict>,
+pub struct PairTable<'a> {
+    // What is told class by class: the accesses and the verdicts are there.
+    classes: ClassTable<'a>,
+    listed: Listed,
 }
 
-impl Model for PairTable {
+impl<'a> Model for PairTable<'a> {
     ghost use Rattle.std.specs.Prelude.{◌≡◌, ◌<◌, length, All};
     ghost use Rattle.conflict_pairs.specs.Pairing.{HasPlaces, questions_at};
     ghost use Rattle.conflict_pairs.specs.Table.{Table, entries_of};
@@ -28,57 +26,52 @@ impl Model for PairTable {
     ghost Value = { Table };
 
     ghost view = { λ t. record {
-      nodes = t.nodes;
-      verdicts = t.verdicts.items;
-      entries = entries_of t.verdicts.items (questions_at t.places.items t.pairs.items)
-          t.numbers.items;
+      paths = t.classes.paths;
+      verdicts = t.classes.verdicts;
+      entries = entries_of t.classes.verdicts (questions_at t.classes.places t.listed.pairs.items)
+          t.listed.numbers.items;
     } };
 
     ghost invariant = { λ t. record {
-      one_each : length t.pairs.items ≡ length t.numbers.items;
-      placed : All (HasPlaces t.places.items) t.pairs.items;
-      within : All (λ n. n < length t.verdicts.items) t.numbers.items;
+      one_each : length t.listed.pairs.items ≡ length t.listed.numbers.items;
+      placed : All (HasPlaces t.classes.places) t.listed.pairs.items;
+      within : All (λ n. n < length t.classes.verdicts) t.listed.numbers.items;
     } };
 }
 
-impl PairTable {
-    /// The table of questions with the numbers of their verdicts.
-    pub(crate) fn of(
-        nodes: usize,
-        places: Vec<Placed>,
-        pairs: Vec<PlacePair>,
-        numbers: Vec<u32>,
-        verdicts: Vec<Verdict>,
-    ) -> Self
-        requires one_each { length pairs.items ≡ length numbers.items }
-        requires placed { All (HasPlaces places.items) pairs.items }
-        requires within { All (λ n. n < length verdicts.items) numbers.items }
-        ensures nodes { result.nodes ≡ nodes }
-        ensures verdicts { result.verdicts ≡ verdicts.items }
-        ensures entries { result.entries
-            ≡ entries_of verdicts.items (questions_at places.items pairs.items) numbers.items }
+impl<'a> PairTable<'a> {
+    /// The table of the questions that are listed, with the verdicts of the class table.
+    pub(crate) fn of(classes: ClassTable<'a>, listed: Listed) -> Self
+        requires one_each { length listed.pairs.items ≡ length listed.numbers.items }
+        requires placed { All (HasPlaces classes.places) listed.pairs.items }
+        requires within { All (λ n. n < length classes.verdicts) listed.numbers.items }
+        ensures paths { result.paths ≡ classes.entry.paths }
+        ensures verdicts { result.verdicts ≡ classes.entry.verdicts }
+        ensures entries { result.entries ≡ entries_of classes.entry.verdicts
+            (questions_at classes.entry.places listed.pairs.items) listed.numbers.items }
     {
-        PairTable {
-            nodes,
-            places,
-            pairs,
-            numbers,
-            verdicts,
-        }
+        PairTable { classes, listed }
     }
 
-    /// How many nodes there are.
-    pub fn nodes(&self) -> usize
-        ensures { result ≡ self.now.nodes }
+    /// What is told class by class of the paths whose questions it lists.
+    pub fn classes(&self) -> &ClassTable<'a>
+        ensures { result.now.paths ≡ self.now.paths }
     {
-        self.nodes
+        &self.classes
+    }
+
+    /// How many nodes there are: one for each path.
+    pub fn nodes(&self) -> usize
+        ensures { result ≡ length self.now.paths }
+    {
+        self.classes.paths().len()
     }
 
     /// How many questions there are.
     pub fn len(&self) -> usize
         ensures { result ≡ length self.now.entries }
     {
-        self.pairs.len()
+        self.listed.pairs.len()
     }
 
     pub fn is_empty(&self) -> bool
@@ -93,14 +86,14 @@ impl PairTable {
         requires { n < length self.now.entries }
         ensures { (e : Judged) → slice_get self.now.entries n ≡ Some e → result ≡ e.question }
     {
-        question_of(&self.places, self.pairs[n])
+        question_of(self.classes.places(), self.listed.pairs[n])
     }
 
     /// The verdicts that questions have, each maybe that of several.
     pub fn verdicts(&self) -> &[Verdict]
         ensures { result.now ≡ self.now.verdicts }
     {
-        self.verdicts.as_slice()
+        self.classes.verdicts()
     }
 
     /// Which of these the question of a number has.
@@ -111,7 +104,7 @@ impl PairTable {
         ensures verdict { (e : Judged) → slice_get self.now.entries n ≡ Some e
             → slice_get self.now.verdicts result ≡ Some e.verdict }
     {
-        self.numbers[n] as usize
+        self.listed.numbers[n] as usize
     }
 
     /// The verdict on the question of a number.
@@ -120,6 +113,7 @@ impl PairTable {
         requires { n < length self.now.entries }
         ensures { (e : Judged) → slice_get self.now.entries n ≡ Some e → result.now ≡ e.verdict }
     {
-        &self.verdicts[self.verdict_number(n)]
+        let verdicts = self.verdicts();
+        &verdicts[self.verdict_number(n)]
     }
 }

@@ -13,7 +13,7 @@ use crate::closure::close;
 use crate::danger::{Danger, first_exposure};
 use crate::least_way::least_way;
 use crate::triple::least_triple;
-use conflict_pairs::{ClassTable, Question, Verdict};
+use conflict_pairs::{ClassTable, PairTable, Question, Verdict};
 use order_facts::Square;
 use prog_check::{Kind, Path};
 use prog_paths::{EdgeTables, Mark, mark_by};
@@ -116,8 +116,15 @@ fn column_count(matrix: &Square, to: usize) -> usize
 }
 
 impl<'a> Graph<'a> {
-    /// The graph of the paths whose questions are answered.
-    pub fn build(alloc: Global, table: &ClassTable<'a>) -> Result<Graph<'a>, AllocError>
+    /// The graph of the paths whose questions a table lists.
+    pub fn build(alloc: Global, table: &PairTable<'a>) -> Result<Graph<'a>, AllocError>
+        ensures { IfOk result (λ g. g ≡ table.now.paths) }
+    {
+        Graph::of_classes(alloc, table.classes())
+    }
+
+    /// The graph of the paths whose questions are answered class by class, before any is listed.
+    pub fn of_classes(alloc: Global, table: &ClassTable<'a>) -> Result<Graph<'a>, AllocError>
         ensures { IfOk result (λ g. g ≡ table.now.paths) }
     {
         let EdgeTables { edges, vulnerable } = edges_of(alloc, table)?;

@@ -25,7 +25,7 @@ fn finding_of(alloc: Global, paths: &[Path], table: ClassTable<'_>) -> Result<Fi
     requires in_bounds { length (questions_of paths.now) ≤ most_questions }
     ensures { IfOk result (IsRightFinding paths.now) }
 {
-    let graph = Graph::build(alloc, &table)?;
+    let graph = Graph::of_classes(alloc, &table)?;
     if let Some(danger) = graph.danger()? {
         return Ok(Finding::Refused(danger));
     }

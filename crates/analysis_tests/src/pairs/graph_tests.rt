@@ -2,7 +2,7 @@
 
 use crate::dangers::shown;
 use crate::examples::{SKEW, paths_of};
-use crate::pairs::sets::class_table_of;
+use crate::pairs::sets::{class_table_of, table_of};
 use crate::told::is_told;
 use dep_graph::Graph;
 use example_sets::{LEDGER, REPORT, SMALL_BANK, TRANSFER};
@@ -31,7 +31,7 @@ fn told_of_graph(alloc: Global, graph: &Graph) -> Result<String, AllocError> {
 /// The graph of some paths.
 fn graph_of<'a>(rt: &impl Abort, alloc: Global, paths: &'a [Path]) -> Result<Graph<'a>, Fail> {
     let table = class_table_of(rt, alloc, paths)?;
-    let graph = Graph::build(alloc, &table);
+    let graph = Graph::of_classes(alloc, &table);
     drop(table);
     Ok(graph?)
 }
@@ -85,8 +85,20 @@ fn check_ledger(rt: &impl Abort, graph: &Graph) {
     assert!(rt; graph.vulnerable(2, 0) && graph.vulnerable(0, 1) && !graph.vulnerable(0, 2));
 }
 
+/// The same of the table that lists their questions.
+fn listed_graph_of<'a>(
+    rt: &impl Abort,
+    alloc: Global,
+    paths: &'a [Path],
+) -> Result<Graph<'a>, Fail> {
+    let table = table_of(rt, alloc, paths)?;
+    let graph = Graph::build(alloc, &table);
+    drop(table);
+    Ok(graph?)
+}
+
 fn check_ledger_paths(rt: &impl Abort, alloc: Global, paths: &[Path]) -> Result<(), Fail> {
-    let graph = graph_of(rt, alloc, paths)?;
+    let graph = listed_graph_of(rt, alloc, paths)?;
     check_ledger(rt, &graph);
     drop(graph);
     Ok(())

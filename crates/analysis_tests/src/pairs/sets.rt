@@ -10,17 +10,21 @@ use std::process::Abort;
 use std::thread::Threads;
 
 /// The table of all questions of some paths.
-pub fn table_of(rt: &impl Abort, alloc: Global, paths: &[Path]) -> Result<PairTable, PairFault> {
+pub fn table_of<'a>(
+    rt: &impl Abort,
+    alloc: Global,
+    paths: &'a [Path],
+) -> Result<PairTable<'a>, PairFault> {
     assert!(rt; paths.iter().all(|path| changes_single_cells(path)));
     pairs(alloc, paths)
 }
 
 /// The same, as `pairs_par` makes it.
-pub fn table_of_threads(
+pub fn table_of_threads<'a>(
     rt: &(impl Abort + Threads + Sync),
     alloc: Global,
-    paths: &[Path],
-) -> Result<PairTable, PairFault> {
+    paths: &'a [Path],
+) -> Result<PairTable<'a>, PairFault> {
     assert!(rt; paths.iter().all(|path| changes_single_cells(path)));
     pairs_par(rt, alloc, paths)
 }

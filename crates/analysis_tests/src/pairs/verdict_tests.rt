@@ -181,6 +181,7 @@ fn push_table(text: &mut String, table: &PairTable) -> Result<(), AllocError> {
 fn shown_table(rt: &impl Abort, alloc: Global, table: Result<PairTable, PairFault>) -> String {
     let table = table.expect(rt, "a table");
     assert!(rt; table.nodes() == 1 && !table.is_empty());
+    assert!(rt; table.classes().paths().len() == 1);
     let mut text = String::new(alloc);
     push_table(&mut text, &table).expect(rt, "memory");
     drop(table);
@@ -203,16 +204,20 @@ fn transfers_are_covered(rt: HostRuntime) -> Result<(), Fail> {
     let paths = paths_of(rt.alloc(), TRANSFER)?;
     let table = table_of(&rt, rt.alloc(), &paths);
     let by_threads = table_of_threads(&rt, rt.alloc(), &paths);
-    drop(paths);
     let shown = shown_table(&rt, rt.alloc(), table);
     let shown_by_threads = shown_table(&rt, rt.alloc(), by_threads);
+    drop(paths);
     is_told(&rt, shown.as_str(), TRANSFERS);
     is_told(&rt, shown_by_threads.as_str(), TRANSFERS);
     Ok(())
 }
 
 /// The table of a set's questions, listed from what is told of its classes.
-fn listed_of(rt: &impl Abort, alloc: Global, paths: &[Path]) -> Result<PairTable, PairFault> {
+fn listed_of<'a>(
+    rt: &impl Abort,
+    alloc: Global,
+    paths: &'a [Path],
+) -> Result<PairTable<'a>, PairFault> {
     let table = class_table_of(rt, alloc, paths)?;
     Ok(table.listed(alloc)?)
 }
@@ -221,8 +226,8 @@ fn listed_of(rt: &impl Abort, alloc: Global, paths: &[Path]) -> Result<PairTable
 fn questions_are_listed_from_their_classes(rt: HostRuntime) -> Result<(), Fail> {
     let paths = paths_of(rt.alloc(), TRANSFER)?;
     let table = listed_of(&rt, rt.alloc(), &paths);
-    drop(paths);
     let shown = shown_table(&rt, rt.alloc(), table);
+    drop(paths);
     is_told(&rt, shown.as_str(), TRANSFERS);
     Ok(())
 }
@@ -294,14 +299,33 @@ fn numbered_verdict(alloc: Global, table: &PairTable, n: usize) -> Result<String
     Ok(text)
 }
 
+fn verdict_of_number(
+    rt: &impl Abort,
+    alloc: Global,
+    paths: &[Path],
+    n: usize,
+) -> Result<String, Fail> {
+    let table = table_of(rt, alloc, paths)?;
+    let told = numbered_verdict(alloc, &table, n);
+    drop(table);
+    Ok(told?)
+}
+
 #[test]
 fn a_verdict_is_found_by_its_number(rt: HostRuntime) -> Result<(), Fail> {
     let paths = paths_of(rt.alloc(), TRANSFER)?;
-    let table = table_of(&rt, rt.alloc(), &paths);
+    let told = verdict_of_number(&rt, rt.alloc(), &paths, 2);
     drop(paths);
-    let told = numbered_verdict(rt.alloc(), &table?, 2)?;
-    is_told(&rt, told.as_str(), "exposed 0 0 0 0 0 0");
+    is_told(&rt, told?.as_str(), "exposed 0 0 0 0 0 0");
     Ok(())
+}
+
+/// How many questions a table has, and how many verdicts.
+fn counts(rt: &impl Abort, table: Result<PairTable, PairFault>) -> (usize, usize) {
+    let table = table.expect(rt, "a table");
+    let counts = (table.len(), table.verdicts().len());
+    drop(table);
+    counts
 }
 
 /// Two programs that are alike. Their three questions are of two puts each.
@@ -315,10 +339,9 @@ program Other(a) { put t[a] = 0; }
 fn questions_that_are_alike_share_a_verdict(rt: HostRuntime) -> Result<(), Fail> {
     let paths = paths_of(rt.alloc(), ALIKE)?;
     let table = table_of(&rt, rt.alloc(), &paths);
+    let counted = counts(&rt, table);
     drop(paths);
-    let table = table?;
-    assert!(rt; table.len() == 3);
-    assert!(rt; table.verdicts().len() == 1);
+    assert!(rt; counted == (3, 1));
     Ok(())
 }
 
@@ -330,22 +353,14 @@ program One() { put t[1] = 0; let a = get t[1] else 0; }
 program Other() { put t[2] = 0; put t[3] = 0; }
 ";
 
-/// How many questions a table has, and how many verdicts.
-fn counts(rt: &impl Abort, table: Result<PairTable, PairFault>) -> (usize, usize) {
-    let table = table.expect(rt, "a table");
-    let counts = (table.len(), table.verdicts().len());
-    drop(table);
-    counts
-}
-
 #[test]
 fn equal_verdicts_are_kept_once(rt: HostRuntime) -> Result<(), Fail> {
     let paths = paths_of(rt.alloc(), APART_ALIKE)?;
     let table = table_of(&rt, rt.alloc(), &paths);
     let by_threads = table_of_threads(&rt, rt.alloc(), &paths);
-    drop(paths);
     let counted = counts(&rt, table);
     let counted_by_threads = counts(&rt, by_threads);
+    drop(paths);
     assert!(rt; counted == (9, 7));
     assert!(rt; counted_by_threads == (9, 7));
     Ok(())
@@ -364,9 +379,9 @@ fn equal_covered_verdicts_are_kept_once(rt: HostRuntime) -> Result<(), Fail> {
     let paths = paths_of(rt.alloc(), COVERED_ALIKE)?;
     let table = table_of(&rt, rt.alloc(), &paths);
     let by_threads = table_of_threads(&rt, rt.alloc(), &paths);
-    drop(paths);
     let counted = counts(&rt, table);
     let counted_by_threads = counts(&rt, by_threads);
+    drop(paths);
     assert!(rt; counted == (3, 2));
     assert!(rt; counted_by_threads == (3, 2));
     Ok(())

@@ -29,7 +29,7 @@ pub fn plan(alloc: Global, set: &ProgramSet) -> Result<Plan, AnalyseFault>
 {
     let paths = paths(alloc, set)?;
     let table = class_table(alloc, &paths)?;
-    let graph = Graph::build(alloc, &table)?;
+    let graph = Graph::of_classes(alloc, &table)?;
     let programs = set.draft().programs.len();
     let triples = closing_triples(alloc, &paths, &graph, programs)?;
     let chosen = choose(alloc, programs, triples)?;

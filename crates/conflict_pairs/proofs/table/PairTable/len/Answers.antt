@@ -6,6 +6,6 @@ use Rattle.conflict_pairs.proofs.table.PairTable.len.Goals as goal
 pub returns : goal.returns
 returns c =
     let inside = c.self.inside in
-    c.len.ensures ∙ inside.pairs.ok.0
-    ∙ sym (pairs-length inside.verdicts.items inside.places.items inside.pairs.items inside.numbers.items c.self.invariant.one_each)
+    c.len.ensures ∙ inside.listed.pairs.ok.0
+    ∙ sym (pairs-length inside.classes.verdicts inside.classes.places inside.listed.pairs.items inside.listed.numbers.items c.self.invariant.one_each)
     ∙ ap (λ (t : Table). length t.entries) c.self.view_is

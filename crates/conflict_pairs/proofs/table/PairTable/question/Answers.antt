@@ -12,7 +12,7 @@ pub index-requires : goal.index-requires
 index-requires c =
     let inside = c.self.inside in
     subst (λ (k : ℕ). c.args.n < k)
-    (sym (ap (λ (t : Table). length t.entries) c.self.view_is) ∙ pairs-length inside.verdicts.items inside.places.items inside.pairs.items inside.numbers.items c.self.invariant.one_each ∙ sym inside.pairs.ok.0)
+    (sym (ap (λ (t : Table). length t.entries) c.self.view_is) ∙ pairs-length inside.classes.verdicts inside.classes.places inside.listed.pairs.items inside.listed.numbers.items c.self.invariant.one_each ∙ sym inside.listed.pairs.ok.0)
     c.requires
 
 pub question_of-requires : goal.question_of-requires
@@ -20,10 +20,10 @@ question_of-requires c =
     let inside = c.self.inside in
     let within =
     subst (λ (k : ℕ). c.args.n < k)
-    (sym (ap (λ (t : Table). length t.entries) c.self.view_is) ∙ pairs-length inside.verdicts.items inside.places.items inside.pairs.items inside.numbers.items c.self.invariant.one_each)
+    (sym (ap (λ (t : Table). length t.entries) c.self.view_is) ∙ pairs-length inside.classes.verdicts inside.classes.places inside.listed.pairs.items inside.listed.numbers.items c.self.invariant.one_each)
     c.requires in
-    subst (λ (l : List Placed). HasPlaces l c.index.result.now) (sym c.deref.ensures.value)
-    (subst (λ (p : PlacePair). HasPlaces inside.places.items p) (sym c.index.ensures) (c.self.invariant.placed c.args.n c.index.result.now within))
+    subst (λ (l : List Placed). HasPlaces l c.index.result.now) (sym c.places.ensures)
+    (subst (λ (p : PlacePair). HasPlaces inside.classes.places p) (sym c.index.ensures) (c.self.invariant.placed c.args.n c.index.result.now within))
 
 pub returns : goal.returns
 returns c e at =
@@ -31,10 +31,10 @@ returns c e at =
     let q = c.question_of.result in
     let within =
     subst (λ (k : ℕ). c.args.n < k)
-    (sym (ap (λ (t : Table). length t.entries) c.self.view_is) ∙ pairs-length inside.verdicts.items inside.places.items inside.pairs.items inside.numbers.items c.self.invariant.one_each)
+    (sym (ap (λ (t : Table). length t.entries) c.self.view_is) ∙ pairs-length inside.classes.verdicts inside.classes.places inside.listed.pairs.items inside.listed.numbers.items c.self.invariant.one_each)
     c.requires in
-    pair-at inside.places.items inside.pairs.items c.args.n c.index.result.now q within c.index.ensures
-    (c.question_of.ensures ∙ ap (λ (l : List Placed). question_at l c.index.result.now) c.deref.ensures.value)
+    pair-at inside.classes.places inside.listed.pairs.items c.args.n c.index.result.now q within c.index.ensures
+    (c.question_of.ensures ∙ ap (λ (l : List Placed). question_at l c.index.result.now) c.places.ensures)
     ∙ sym (ap (λ (x : Judged). x.question)
-    (entries-at inside.verdicts.items (questions_at inside.places.items inside.pairs.items) inside.numbers.items c.args.n q 0 e
+    (entries-at inside.classes.verdicts (questions_at inside.classes.places inside.listed.pairs.items) inside.listed.numbers.items c.args.n q 0 e
     (subst (λ (l : List Judged). slice_get l c.args.n ≡ Some e) (sym (ap (λ (t : Table). t.entries) c.self.view_is)) at)))

@@ -9,19 +9,19 @@ use Rattle.conflict_pairs.proofs.table.PairTable.verdict_number.Goals as goal
 pub index-requires : goal.index-requires
 index-requires c =
     let inside = c.self.inside in
-    subst (λ (k : ℕ). c.args.n < k) (sym inside.numbers.ok.0)
-    (number-within inside.verdicts.items (questions_at inside.places.items inside.pairs.items) inside.numbers.items c.args.n (pairs-one_each inside.verdicts.items inside.places.items inside.pairs.items inside.numbers.items c.self.invariant.one_each) (subst (λ (t : Table). c.args.n < length t.entries) (sym c.self.view_is) c.requires))
+    subst (λ (k : ℕ). c.args.n < k) (sym inside.listed.numbers.ok.0)
+    (number-within inside.classes.verdicts (questions_at inside.classes.places inside.listed.pairs.items) inside.listed.numbers.items c.args.n (pairs-one_each inside.classes.verdicts inside.classes.places inside.listed.pairs.items inside.listed.numbers.items c.self.invariant.one_each) (subst (λ (t : Table). c.args.n < length t.entries) (sym c.self.view_is) c.requires))
 
 pub returns-clause-within : goal.returns-clause-within
 returns-clause-within c =
     let inside = c.self.inside in
-    let lt = number-within inside.verdicts.items (questions_at inside.places.items inside.pairs.items) inside.numbers.items c.args.n (pairs-one_each inside.verdicts.items inside.places.items inside.pairs.items inside.numbers.items c.self.invariant.one_each) (subst (λ (t : Table). c.args.n < length t.entries) (sym c.self.view_is) c.requires) in
+    let lt = number-within inside.classes.verdicts (questions_at inside.classes.places inside.listed.pairs.items) inside.listed.numbers.items c.args.n (pairs-one_each inside.classes.verdicts inside.classes.places inside.listed.pairs.items inside.listed.numbers.items c.self.invariant.one_each) (subst (λ (t : Table). c.args.n < length t.entries) (sym c.self.view_is) c.requires) in
     subst (λ (t : Table). c.index.result.now < length t.verdicts) c.self.view_is
-    (subst (λ (k : ℕ). k < length inside.verdicts.items) (sym c.index.ensures) (c.self.invariant.within c.args.n c.index.result.now lt))
+    (subst (λ (k : ℕ). k < length inside.classes.verdicts) (sym c.index.ensures) (c.self.invariant.within c.args.n c.index.result.now lt))
 
 pub returns-clause-verdict : goal.returns-clause-verdict
 returns-clause-verdict c e at =
     let inside = c.self.inside in
     subst (λ (t : Table). slice_get t.verdicts c.index.result.now ≡ Some e.verdict) c.self.view_is
-    (number-verdict inside.verdicts.items (questions_at inside.places.items inside.pairs.items) inside.numbers.items c.args.n c.index.result.now e (pairs-one_each inside.verdicts.items inside.places.items inside.pairs.items inside.numbers.items c.self.invariant.one_each) c.self.invariant.within c.index.ensures
+    (number-verdict inside.classes.verdicts (questions_at inside.classes.places inside.listed.pairs.items) inside.listed.numbers.items c.args.n c.index.result.now e (pairs-one_each inside.classes.verdicts inside.classes.places inside.listed.pairs.items inside.listed.numbers.items c.self.invariant.one_each) c.self.invariant.within c.index.ensures
     (subst (λ (t : Table). slice_get t.entries c.args.n ≡ Some e) (sym c.self.view_is) at))
