@@ -1,72 +1,28 @@
 -- Accesses among all stand in order, by node and then by number: so each stands once, and where two that both write ask
 -- each other, the first access of a class asks the last of another.
-use Rattle.std.proofs.Common.{◌≡◌, ℕ, ◌<◌, ◌≤◌, ◌+◌, ◌⊎◌, inl, inr, true, List, [], ◌∷◌, ◌++◌, length, refl, sym, subst, ap, ◌∙◌, arith, zero, suc, Some}
-use Rattle.std.specs.Prelude.{All, slice_get}
+use Rattle.std.proofs.Common.{◌≡◌, ℕ, ◌<◌, ◌≤◌, ◌⊎◌, inl, inr, true, List, length, sym, ap, ◌∙◌, arith}
 use Rattle.std.proofs.lemmas.Bool.{cases_lt}
-use Rattle.std.proofs.lemmas.List.Elements.{All-nil, All-cons, All-append}
-use Rattle.std.proofs.lemmas.Option.{none-some, same_Some, slice_get_within, get_or_from_slice_get, slice_get-get_or}
+use Rattle.std.proofs.lemmas.Option.{slice_get-get_or}
 use Rattle.prog_check.specs.declared.path.Kind.{Kind}
-use Rattle.prog_check.specs.declared.path.Access.{Access}
 use Rattle.prog_check.specs.declared.path.Path.{Path}
-use Rattle.prog_paths.specs.StaticGraph.{QuestionNumbers, Precedes, Rises, IsUpToPair}
+use Rattle.prog_paths.specs.StaticGraph.{IsUpToPair}
 use Rattle.prog_paths.specs.declared.accesses.places.Placed.{Placed}
-use Rattle.prog_paths.specs.Places.{AreAlike, placed_from, all_from}
+use Rattle.prog_paths.specs.Places.{AreAlike, all_from}
 use Rattle.prog_paths.specs.Questions.{Asks, asks, question_between, numbers_of}
-use Rattle.prog_paths.proofs.Questions.{placed}
 use Rattle.prog_paths.proofs.Membership.{Asks-from_asks, asks-from_Asks}
+use Rattle.prog_paths.proofs.Order.{PlaceBefore, places_rise, rises-at}
 use Rattle.conflict_pairs.specs.Pairing.{no_place, place_at}
-
--- ---- all accesses rise
-
-abbrev StandsBefore : Placed → Placed → Type 0
-StandsBefore p r = Precedes p.node p.number r.node r.number
-
--- an access of a node stands before those behind it there
-before-rest : (p : Placed) (node n : ℕ) (xs : List Access) → Precedes p.node p.number node n → All (StandsBefore p) (placed_from node n xs)
-before-rest p node n [] h = All-nil (StandsBefore p)
-before-rest p node n (x ∷ xs) h = All-cons (StandsBefore p) (placed node n x) (placed_from node (n + 1) xs) h (before-rest p node (n + 1) xs (on h))
-  where
-    on : Precedes p.node p.number node n → Precedes p.node p.number node (n + 1)
-    on (inl k) = inl k
-    on (inr (e, k)) = inr (e, omega (arith, k))
-
--- and before those of later nodes
-before-later : (p : Placed) (n : ℕ) (paths : List Path) → p.node < n → All (StandsBefore p) (all_from n paths)
-before-later p n [] h = All-nil (StandsBefore p)
-before-later p n (path ∷ paths) h =
-    All-append (StandsBefore p) (placed_from n 0 path.accesses) (all_from (n + 1) paths) (before-rest p n 0 path.accesses (inl h)) (before-later p (n + 1) paths (omega (arith, h)))
-
-node-rises : (node n : ℕ) (xs : List Access) (paths : List Path) → Rises StandsBefore (all_from (node + 1) paths) → Rises StandsBefore (placed_from node n xs ++ all_from (node + 1) paths)
-node-rises node n [] paths r = r
-node-rises node n (x ∷ xs) paths r = (
-  All-append (StandsBefore (placed node n x)) (placed_from node (n + 1) xs) (all_from (node + 1) paths) (before-rest (placed node n x) node (n + 1) xs (inr (refl, omega arith)))
-      (before-later (placed node n x) (node + 1) paths (omega arith)),
-  node-rises node (n + 1) xs paths r,
-)
-
-all-rise : (n : ℕ) (paths : List Path) → Rises StandsBefore (all_from n paths)
-all-rise n [] = tt
-all-rise n (path ∷ paths) = node-rises n 0 path.accesses paths (all-rise (n + 1) paths)
-
--- of two places of a list that rises the first stands before the second
-rises-at : (xs : List Placed) → Rises StandsBefore xs → (i j : ℕ) (p r : Placed) → slice_get xs i ≡ Some p → slice_get xs j ≡ Some r → i < j → StandsBefore p r
-rises-at [] rise i j p r at_i at_j lt = absurd (none-some p at_i)
-rises-at (d ∷ rest) rise i zero p r at_i at_j lt = absurd (omega (arith, lt))
-rises-at (d ∷ rest) rise zero (suc j) p r at_i at_j lt =
-    subst (λ (z : Placed). StandsBefore z r) (same_Some d p at_i)
-    (subst (λ (z : Placed). StandsBefore d z) (get_or_from_slice_get rest j r r at_j) (rise.0 j r (slice_get_within rest j r at_j)))
-rises-at (d ∷ rest) rise (suc i) (suc j) p r at_i at_j lt = rises-at rest rise.1 i j p r at_i at_j (omega (arith, lt))
 
 module _ (paths : List Path) where
   abbrev at_number : ℕ → Placed
   at_number n = place_at (all_from 0 paths) n
 
-  before : (i j : ℕ) → i < j → j < length (all_from 0 paths) → StandsBefore (at_number i) (at_number j)
+  before : (i j : ℕ) → i < j → j < length (all_from 0 paths) → PlaceBefore (at_number i) (at_number j)
   before i j lt within =
-      rises-at (all_from 0 paths) (all-rise 0 paths) i j (at_number i) (at_number j) (slice_get-get_or (all_from 0 paths) i no_place (omega (arith, lt, within))) (slice_get-get_or (all_from 0 paths) j no_place within) lt
+      rises-at PlaceBefore (all_from 0 paths) (places_rise 0 paths) i j (at_number i) (at_number j) (slice_get-get_or (all_from 0 paths) i no_place (omega (arith, lt, within))) (slice_get-get_or (all_from 0 paths) j no_place within) lt
 
   -- none stands before itself
-  not_before-own : (p r : Placed) → p ≡ r → StandsBefore p r → ⊥
+  not_before-own : (p r : Placed) → p ≡ r → PlaceBefore p r → ⊥
   not_before-own p r e (inl lt) = let n = ap (λ (q : Placed). q.node) e in omega (arith, lt, n)
   not_before-own p r e (inr (_, lt)) = let n = ap (λ (q : Placed). q.number) e in omega (arith, lt, n)
 
@@ -97,7 +53,7 @@ module _ (paths : List Path) where
       by : (i < j) ⊎ (j ≤ i) → IsUpToPair (at_number i).node (at_number i).number (at_number j).node (at_number j).number
       by (inl a) = weaker (before i j a within)
         where
-          weaker : StandsBefore (at_number i) (at_number j) → IsUpToPair (at_number i).node (at_number i).number (at_number j).node (at_number j).number
+          weaker : PlaceBefore (at_number i) (at_number j) → IsUpToPair (at_number i).node (at_number i).number (at_number j).node (at_number j).number
           weaker (inl k) = inl k
           weaker (inr (e, k)) = inr (e, omega (arith, k))
       by (inr b) =

@@ -21,7 +21,7 @@ Rise = RiseBy numbers_of
 
 -- ---- places rise
 
-abbrev PlaceBefore : Placed → Placed → Type 0
+abbrev pub PlaceBefore : Placed → Placed → Type 0
 PlaceBefore p r = Precedes p.node p.number r.node r.number
 
 abbrev PlacesRise : List Placed → Type 0
@@ -47,9 +47,9 @@ node_rises node n (x ∷ xs) rest r h = (
   node_rises node (n + 1) xs rest r h,
 )
 
-all_rise : (n : ℕ) (paths : List Path) → PlacesRise (all_from n paths)
-all_rise n [] = tt
-all_rise n (path ∷ paths) = node_rises n 0 path.accesses (all_from (n + 1) paths) (all_rise (n + 1) paths) (λ p e. before_all p (n + 1) paths (omega (arith, e)))
+pub places_rise : (n : ℕ) (paths : List Path) → Rises PlaceBefore (all_from n paths)
+places_rise n [] = tt
+places_rise n (path ∷ paths) = node_rises n 0 path.accesses (all_from (n + 1) paths) (places_rise (n + 1) paths) (λ p e. before_all p (n + 1) paths (omega (arith, e)))
 
 -- ---- questions rise
 
@@ -98,15 +98,16 @@ among_rises (f ∷ firsts) seconds p s =
     (λ q ex ea. before_among q firsts seconds (all_map (λ later. PlaceBefore f later) (λ later. Precedes q.x q.a later.node later.number) firsts (λ later k. subst (λ (n : ℕ). Precedes n q.a later.node later.number) (sym ex) (subst (λ (n : ℕ). Precedes f.node n later.node later.number) (sym ea) k)) p.0))
 
 pub law_of_order : LawOfOrder
-law_of_order paths = among_rises (all_from 0 paths) (all_from 0 paths) (all_rise 0 paths) (all_rise 0 paths)
+law_of_order paths = among_rises (all_from 0 paths) (all_from 0 paths) (places_rise 0 paths) (places_rise 0 paths)
 
 -- ---- places of what rises
 
-pub rise-between : {A : Type 0} (question : A → QuestionNumbers) (xs : List A) → RiseBy question xs → (j k : ℕ) (x y : A) → slice_get xs j ≡ Some x → slice_get xs k ≡ Some y → j < k → IsBefore (question x) (question y)
-rise-between question [] rise j k x y at_j at_k lt = absurd (none-some x at_j)
-rise-between question (d ∷ rest) rise j zero x y at_j at_k lt = absurd (omega (arith, lt))
-rise-between {A = A} question (d ∷ rest) rise zero (suc k) x y at_j at_k lt =
+-- of two things in a list that rises the first stands before the second
+pub rises-at : {A : Type 0} (StandsBefore : A → A → Type 0) (xs : List A) → Rises StandsBefore xs → (j k : ℕ) (x y : A) → slice_get xs j ≡ Some x → slice_get xs k ≡ Some y → j < k → StandsBefore x y
+rises-at StandsBefore [] rise j k x y at_j at_k lt = absurd (none-some x at_j)
+rises-at StandsBefore (d ∷ rest) rise j zero x y at_j at_k lt = absurd (omega (arith, lt))
+rises-at {A = A} StandsBefore (d ∷ rest) rise zero (suc k) x y at_j at_k lt =
     let inside = slice_get_within rest k y at_k in
-    let first = subst (λ (z : A). IsBefore (question d) (question z)) (get_or_from_slice_get rest k y y at_k) (rise.0 k y inside) in
-    subst (λ (z : A). IsBefore (question z) (question y)) (same_Some d x at_j) first
-rise-between question (d ∷ rest) rise (suc j) (suc k) x y at_j at_k lt = rise-between question rest rise.1 j k x y at_j at_k (omega (arith, lt))
+    let first = subst (λ (z : A). StandsBefore d z) (get_or_from_slice_get rest k y y at_k) (rise.0 k y inside) in
+    subst (λ (z : A). StandsBefore z y) (same_Some d x at_j) first
+rises-at StandsBefore (d ∷ rest) rise (suc j) (suc k) x y at_j at_k lt = rises-at StandsBefore rest rise.1 j k x y at_j at_k (omega (arith, lt))

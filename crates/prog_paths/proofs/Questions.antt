@@ -100,9 +100,6 @@ asked_by-yes first n xs d lt e = ap (asked_by first) (drop_more xs n d lt) ∙ i
 pub asked_by-no : (first : Placed) (n : ℕ) (xs : List Placed) (d : Placed) → n < length xs → asks first (get_or xs n d) ≡ false → asked_by first (drop n xs) ≡ asked_by first (drop (n + 1) xs)
 asked_by-no first n xs d lt e = ap (asked_by first) (drop_more xs n d lt) ∙ if_no (asks first (get_or xs n d)) (question_between first (get_or xs n d)) (asked_by first (drop (n + 1) xs)) e
 
-pub asked_among-next : (n : ℕ) (xs seconds : List Placed) (d : Placed) → n < length xs → asked_among (drop n xs) seconds ≡ asked_by (get_or xs n d) seconds ++ asked_among (drop (n + 1) xs) seconds
-asked_among-next n xs seconds d lt = ap (λ (l : List Placed). asked_among l seconds) (drop_more xs n d lt)
-
 pub asked_by-append : (first : Placed) (xs ys : List Placed) → asked_by first (xs ++ ys) ≡ asked_by first xs ++ asked_by first ys
 asked_by-append first [] ys = refl
 asked_by-append first (x ∷ xs) ys =

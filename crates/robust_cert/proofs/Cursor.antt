@@ -6,7 +6,7 @@ use Rattle.std.proofs.lemmas.List.Elements.{All-head, All-tail}
 use Rattle.std.proofs.lemmas.Option.{same_Some, none-some, slice_get-get_or, slice_get_past}
 use Rattle.prog_paths.specs.StaticGraph.{Precedes, QuestionNumbers}
 use Rattle.prog_paths.specs.Listing.{IsBefore, RiseBy}
-use Rattle.prog_paths.proofs.Order.{rise-between}
+use Rattle.prog_paths.proofs.Order.{rises-at}
 use Rattle.robust_cert.specs.declared.checking.telling.Telling.{Telling}
 use Rattle.robust_cert.specs.declared.checking.telling.Telling as telling
 use Rattle.robust_cert.specs.declared.certificate.EntryQuestion.{EntryQuestion}
@@ -124,7 +124,7 @@ told-nowhere (d ∷ rest) (suc at) q rise behind other =
 
 -- the entries before one stand before its question
 pub behind-entry : (entries : List Entry) (k : ℕ) (e : Entry) → RiseBy question_of entries → slice_get entries k ≡ Some e → IsBehind entries k (question_of e)
-behind-entry entries k e rise at j f lt is = rise-between question_of entries rise j k f e is at lt
+behind-entry entries k e rise at j f lt is = rises-at (λ x later. IsBefore (question_of x) (question_of later)) entries rise j k f e is at lt
 
 pub telling-from_entry : (entries : List Entry) (q : QuestionNumbers) (e : Entry) → RiseBy question_of entries → Contains entries e → question_of e ≡ q → telling_of entries q ≡ telling_with e.reason
 telling-from_entry entries q e rise (k, lt, is) about =
