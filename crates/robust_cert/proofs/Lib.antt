@@ -2,6 +2,7 @@ pub mod Shared
 pub mod Texts
 mod TailTexts
 mod Pieces
+mod Slates
 pub mod Shapes
 pub mod EntryValues
 pub mod Members

@@ -1,4 +1,5 @@
 pub mod Sharing
+pub mod Slates
 pub mod Ranges
 pub mod Json
 pub mod Reading

@@ -1,15 +1,14 @@
 -- The text of a certificate in three parts: all up to its first entry, the other entries, and what stands behind them.
 -- And what is left of a text that is given a piece after another.
-use Rattle.std.specs.Prelude.{◌<◌, ◌≤◌, ◌++◌, ◌∷◌, [], ℕ, List, All, String, codes, length, if◌then◌else◌}
+use Rattle.std.specs.Prelude.{◌+◌, ◌++◌, ◌∷◌, [], ℕ, List, codes, length, if◌then◌else◌}
 use Rattle.std.specs.List.{flat_map}
-use Rattle.std.specs.declared.alloc.Global.{Global}
 use Rattle.serde_json.specs.Written.{compact_text}
 use Rattle.robust_cert.specs.declared.certificate.Certificate.{Certificate}
 use Rattle.robust_cert.specs.declared.entries.Reason.{Reason}
 use Rattle.robust_cert.specs.declared.entries.Told.{Told}
 use Rattle.robust_cert.specs.Json.{list_data, whole_data, entry_data, has_no_bodies}
-use Rattle.robust_cert.specs.Parts.{AreTailsOf, HasRoomFor}
-use Rattle.robust_cert.specs.Sharing.{Entry, HasReason}
+use Rattle.robust_cert.specs.Parts.{tail_text, front_room}
+use Rattle.robust_cert.specs.Sharing.{Entry, reason_at}
 
 -- ---- entries
 
@@ -26,6 +25,11 @@ first_entry_text (e ∷ es) = compact_text (entry_data e)
 abbrev pub other_entries_text : List Entry → List ℕ
 other_entries_text [] = []
 other_entries_text (e ∷ es) = next_entries_text es
+
+-- so much room these entries take at most behind another one
+abbrev pub entries_room : List Reason → List Told → ℕ
+entries_room reasons [] = 0
+entries_room reasons (t ∷ ts) = (length (tail_text (reason_at reasons t.reason)) + front_room) + entries_room reasons ts
 
 -- ---- what stands round them
 
@@ -60,11 +64,3 @@ pub record TextLeft : Type 0 where
 -- all that is left
 abbrev pub text_left : TextLeft → List ℕ
 text_left t = t.piece ++ t.behind
-
--- entries can be given: each has a reason, the tails of reasons are at hand, and there is room for an entry
-pub record CanGive
-    (reasons : List Reason) (entries : List Told) (tails : List (String Global)) (room capacity : ℕ) : Type 0 where
-  pub have_reasons : All (HasReason reasons) entries
-  pub have_tails : AreTailsOf reasons tails
-  pub have_room : All (HasRoomFor room) reasons
-  pub is_wide : 0 < length entries → room ≤ capacity

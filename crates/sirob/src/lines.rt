@@ -12,6 +12,7 @@ use crate::status::Status;
 use robust_cert::CertificateText;
 use si_engine::{DeviceFault, PartFault, Sink, write_or, write_whole};
 use std::alloc::Global;
+use std::thread::Threads;
 
 /// The line of want of memory.
 pub const MEMORY_LINE: &[u8] = b"fault memory\n";
@@ -32,6 +33,7 @@ pub fn write_lines<K: Sink>(
 /// Writes what is left of a certificate's text, piece by piece, or some first bytes of it where the
 /// sink fails.
 pub fn write_pieces<K: Sink>(
+    rt: &(impl Threads + Sync),
     sink: &mut K,
     text: &mut CertificateText<'_>,
 ) -> Result<(), DeviceFault>
@@ -43,7 +45,7 @@ pub fn write_pieces<K: Sink>(
 {
     write_whole(sink, text.piece().as_bytes())?;
     while text.has_more() {
-        text.advance();
+        text.advance_par(rt);
         write_whole(sink, text.piece().as_bytes())?;
     }
     Ok(())

@@ -4,10 +4,12 @@ use crate::examples::{KEPT_PAYS, KEPT_REPORTS, TRANSFERS};
 use order_facts::{Node, Nodes};
 use prog_tree::Sequence;
 use robust_cert::{
-    Certificate, Chain, Entries, EntryQuestion, JsonFault, Reason, Told, from_json, to_json,
+    Certificate, CertificateText, Chain, Entries, EntryQuestion, JsonFault, Reason, Told,
+    from_json, to_json,
 };
 use std::alloc::{AllocError, Global};
 use std::process::Abort;
+use std::thread::Threads;
 
 /// A set without programs.
 const EMPTY: &str = "{\"entries\":[],\"levels\":[],\"version\":1}";
@@ -232,6 +234,45 @@ fn a_text_of_several_pieces_is_written_as_it_was_read(rt: HostRuntime) {
     let text = long_text(rt.alloc(), 10_000).expect(&rt, "memory");
     assert!(rt; text.len() > 3 * 65_536);
     assert!(rt; is_written_as(rt.alloc(), text.as_str(), text.as_str()));
+}
+
+/// The text of a certificate, as several threads write it.
+fn written_by_threads(
+    rt: &(impl Threads + Sync),
+    alloc: Global,
+    certificate: &Certificate,
+) -> Result<String, AllocError> {
+    let mut pieces = CertificateText::for_threads(alloc, certificate)?;
+    let mut text = String::from_str(alloc, pieces.piece())?;
+    while pieces.has_more() {
+        pieces.advance_par(rt);
+        text.push_str(pieces.piece())?;
+    }
+    Ok(text)
+}
+
+/// Whether a text is read, and threads write it again.
+fn is_written_by_threads(rt: &(impl Threads + Sync), alloc: Global, text: &str) -> bool {
+    let Ok(certificate) = from_json(alloc, text.as_bytes()) else {
+        return false;
+    };
+    let is_written = match written_by_threads(rt, alloc, &certificate) {
+        Ok(written) => written.as_str() == text,
+        Err(_) => false,
+    };
+    drop(certificate);
+    is_written
+}
+
+#[test]
+fn threads_write_a_long_text_as_it_was_read(rt: HostRuntime) {
+    let text = long_text(rt.alloc(), 40_000).expect(&rt, "memory");
+    assert!(rt; is_written_by_threads(&rt, rt.alloc(), text.as_str()));
+}
+
+#[test]
+fn threads_write_a_short_text_as_it_was_read(rt: HostRuntime) {
+    assert!(rt; is_written_by_threads(&rt, rt.alloc(), KEPT_PAYS));
 }
 
 fn reason_count(certificate: &Certificate) -> usize {

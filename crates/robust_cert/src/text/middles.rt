@@ -7,6 +7,7 @@ ghost use Rattle.robust_cert.specs.Parts.{second_text};
 ghost use Rattle.robust_cert.specs.Json.{QuestionFits};
 
 use crate::certificate::EntryQuestion;
+use crate::entries::Told;
 use crate::text::room::{put_before_comma, put_number, put_str};
 use std::alloc::{AllocError, Global};
 use std::marker::Model;
@@ -16,6 +17,9 @@ const MIDDLES_REMEMBERED: usize = 8_191;
 
 // For fewer entries no slots are made, since that would take longer than they save.
 const MIN_ENTRIES_WITH_SLOTS: usize = 1_024;
+
+// The middles of so many entries are remembered: each first access meets mostly the same second ones.
+const ENTRIES_READ: usize = 32_768;
 
 /// So many bytes a middle has at most: two numbers and the comma between them.
 pub(crate) const MIDDLE_BYTES: usize = 21;
@@ -78,20 +82,27 @@ fn slot_of(question: EntryQuestion) -> usize {
     mark.wrapping_add(question.b as usize) % MIDDLES_REMEMBERED
 }
 
-/// Middles as far as they are remembered: a slot holds the last one that came there.
+/// Middles as far as they are remembered: a slot holds the last one that came there. They are read
+/// by several threads at once.
 #[derive(Drop)]
 pub(crate) struct Middles {
     slots: Vec<Option<Middle>>,
 }
 
 impl Middles {
-    /// Slots that hold no middle yet, for the text of so many entries.
-    pub(crate) fn for_entries(alloc: Global, count: usize) -> Result<Self, AllocError> {
-        let mut slots = Vec::new(alloc);
-        if count >= MIN_ENTRIES_WITH_SLOTS {
-            slots.resize_with(MIDDLES_REMEMBERED, || None)?;
+    /// The middles of the first entries, if there are many, as far as there is memory.
+    pub(crate) fn for_entries(alloc: Global, told: &[Told]) -> Result<Self, AllocError> {
+        let mut middles = Middles {
+            slots: Vec::new(alloc),
+        };
+        if told.len() < MIN_ENTRIES_WITH_SLOTS {
+            return Ok(middles);
         }
-        Ok(Middles { slots })
+        middles.slots.resize_with(MIDDLES_REMEMBERED, || None)?;
+        for next in &told[..told.len().min(ENTRIES_READ)] {
+            middles.keep(alloc, next.question);
+        }
+        Ok(middles)
     }
 
     fn find(&self, question: EntryQuestion) -> Option<&str>
@@ -109,13 +120,16 @@ impl Middles {
 
     // Remembers the numbers of a second access, as far as there is memory.
     fn keep(&mut self, alloc: Global, question: EntryQuestion) {
+        if self.find(question).is_some() {
+            return;
+        }
         if let Some(slot) = self.slots.get_mut(slot_of(question)) {
             *slot = Middle::of(alloc, question).ok();
         }
     }
 
-    /// Adds the numbers of the second access, which are remembered from then on.
-    pub(crate) fn put_access(&mut self, text: &mut String, question: EntryQuestion)
+    /// Adds the numbers of the second access.
+    pub(crate) fn put_access(&self, text: &mut String, question: EntryQuestion)
         requires { string_len text.old + MIDDLE_BYTES ≤ string_capacity text.old }
         ensures text { string_bytes text.new ≡ string_bytes text.old ++ second_text question }
         ensures len { string_len text.new ≤ string_len text.old + MIDDLE_BYTES }
@@ -125,7 +139,6 @@ impl Middles {
             put_str(text, known);
             return;
         }
-        self.keep(*text.allocator(), question);
         put_second_access(text, question);
     }
 }

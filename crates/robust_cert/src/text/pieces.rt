@@ -1,37 +1,33 @@
 //! The text of a certificate in pieces, so that it stands nowhere as a whole. All memory that they
 //! need is taken before the first one is given.
 
-ghost use Rattle.std.specs.Prelude.{◌≡◌, ◌+◌, ◌<◌, ◌≤◌, ◌++◌, [], All, IsTrue, IsFalse, IfOk};
-ghost use Rattle.std.specs.Prelude.{length, string_bytes, string_capacity, string_len};
+ghost use Rattle.std.specs.Prelude.{◌≡◌, ◌<◌, ◌≤◌, ◌++◌, [], All, IsTrue, IsFalse, IfOk};
 ghost use Rattle.robust_cert.specs.Json.{certificate_text, QuestionFits, CertificateFits};
-ghost use Rattle.robust_cert.specs.Parts.{tail_text, AreTailsOf, HasRoomFor, next_entry_text};
-ghost use Rattle.robust_cert.specs.Pieces.{next_entries_text, text_left};
-ghost use Rattle.robust_cert.specs.Sharing.{reason_at, entries_told, HasReason};
+ghost use Rattle.robust_cert.specs.Pieces.{text_left};
 
 use crate::certificate::{Certificate, EntryQuestion};
 use crate::entries::{Reason, Told};
 use crate::text::heads::Heads;
 use crate::text::middles::Middles;
-use crate::text::room::{has_room, put_str};
-use crate::text::tails::{tail_at, tails_of};
+use crate::text::next_entries::{put_entries, room_for};
+use crate::text::slates::{NO_QUESTION, Slates};
+use crate::text::tails::tails_of;
 use crate::text::writing::{closing_of, push_first_entry, push_opening};
 use std::alloc::{AllocError, Global};
 use std::marker::Model;
 use std::mem::swap;
+use std::thread::Threads;
 
 // The room of a piece, unless the opening or an entry needs more.
 const PIECE_BYTES: usize = 65_536;
 
-// So many bytes the text of an entry has at most before its tail.
-const FRONT_BYTES: usize = 64;
+// Where threads write a text, they write so many pieces at once, of so many bytes each.
+const SLATES: usize = 8;
 
-// The heads with which a text begins, before an entry has asked for its own.
-const NO_QUESTION: EntryQuestion = EntryQuestion {
-    x: 0,
-    a: 0,
-    y: 0,
-    b: 0,
-};
+const SLATE_BYTES: usize = 262_144;
+
+// For fewer entries no thread is worth its while.
+const MIN_ENTRIES_OF_THREADS: usize = 16_384;
 
 // Each number of a question has 32 bits.
 fn question_fits(question: EntryQuestion)
@@ -47,85 +43,24 @@ fn questions_fit(told: &[Told])
     }
 }
 
-// No tail is longer.
-fn longest(tails: &[String]) -> usize
-    ensures { All (λ t. length (string_bytes t) ≤ result) tails.now }
-{
-    let mut longest: usize = 0;
-    for tail in tails {
-        longest = longest.max(tail.as_bytes().len());
+// So many slates threads write at once, of a text with so many entries.
+fn slate_count(entries: usize) -> usize {
+    if entries < MIN_ENTRIES_OF_THREADS {
+        0
+    } else {
+        SLATES
     }
-    longest
 }
 
-// So much room the text of an entry with one of these tails takes at most, behind another one.
-fn room_for(tails: &[String]) -> Result<usize, AllocError>
-    ensures { IfOk result (λ room. All (λ t. length (string_bytes t) + FRONT_BYTES ≤ room)
-        tails.now) }
+// So many entries a piece takes, each of which needs so much room: one at least, and without slates
+// no more.
+fn entries_each(slates: usize, room: usize) -> usize
+    ensures { 0 < result }
 {
-    let most = longest(tails);
-    let Some(room) = most.checked_add(FRONT_BYTES) else {
-        return Err(AllocError);
-    };
-    Ok(room)
-}
-
-// Adds an entry behind another one, for which there is room. Its tail is at hand, and mostly its
-// head and its middle.
-fn put_next(
-    text: &mut String,
-    heads: &mut Heads,
-    middles: &mut Middles,
-    told: Told,
-    reasons: &[Reason],
-    tails: &[String],
-)
-    requires tails { AreTailsOf reasons.now tails.now }
-    requires within { HasReason reasons.now told }
-    requires room { string_len text.old
-        + (length (tail_text (reason_at reasons.now told.reason)) + FRONT_BYTES)
-        ≤ string_capacity text.old }
-    ensures text { string_bytes text.new ≡ string_bytes text.old
-        ++ next_entry_text told.question (reason_at reasons.now told.reason) }
-    ensures capacity { string_capacity text.old ≤ string_capacity text.new }
-{
-    let number = told.reason as usize;
-    heads.renew(told.question);
-    put_str(text, heads.with_reason(&reasons[number]));
-    middles.put_access(text, told.question);
-    put_str(text, tail_at(reasons, tails, number));
-}
-
-// Adds entries behind another one, one at least, as long as there is room, and gives those that are
-// left.
-fn put_entries<'t>(
-    text: &mut String,
-    heads: &mut Heads,
-    middles: &mut Middles,
-    told: &'t [Told],
-    reasons: &[Reason],
-    tails: &[String],
-    room: usize,
-) -> &'t [Told]
-    requires tails { AreTailsOf reasons.now tails.now }
-    requires short { All (HasRoomFor room) reasons.now }
-    requires within { All (HasReason reasons.now) told.now }
-    requires room { string_len text.old + room ≤ string_capacity text.old }
-    ensures text { string_bytes text.new ++ next_entries_text (entries_told reasons.now result.now)
-        ≡ string_bytes text.old ++ next_entries_text (entries_told reasons.now told.now) }
-    ensures within { All (HasReason reasons.now) result.now }
-    ensures room { room ≤ string_capacity text.new }
-    ensures fewer { 0 < length told.now → length result.now < length told.now }
-{
-    let mut left = told;
-    while let Some((next, behind)) = left.split_first() {
-        put_next(text, heads, middles, *next, reasons, tails);
-        left = behind;
-        if !has_room(text, room) {
-            return left;
-        }
+    if slates == 0 {
+        return 1;
     }
-    left
+    (SLATE_BYTES / room.max(1)).max(1)
 }
 
 /// What is left of a certificate's text: the piece at hand, and what stands behind it. As long as
@@ -133,6 +68,8 @@ fn put_entries<'t>(
 #[derive(Drop)]
 pub struct CertificateText<'c> {
     piece: String,
+    // Pieces that several threads wrote, as far as they are not given yet.
+    slates: Slates,
     // The entries that are still to come, and what they are written from.
     left: &'c [Told],
     reasons: &'c [Reason],
@@ -145,26 +82,32 @@ pub struct CertificateText<'c> {
 }
 
 impl<'c> Model for CertificateText<'c> {
-    ghost use Rattle.std.specs.Prelude.{◌+◌, ◌++◌, length, string_bytes, string_capacity};
-    ghost use Rattle.robust_cert.specs.Pieces.{TextLeft, CanGive, next_entries_text};
+    ghost use Rattle.std.specs.Prelude.{◌+◌, ◌*◌, ◌++◌, length, string_bytes, string_capacity};
+    ghost use Rattle.robust_cert.specs.Pieces.{TextLeft, next_entries_text};
     ghost use Rattle.robust_cert.specs.Sharing.{entries_told};
+    ghost use Rattle.robust_cert.specs.Slates.{CanGive, slates_left, slates_text};
 
     ghost Value = { TextLeft };
 
     ghost view = { λ t. record {
       piece = string_bytes t.piece;
-      behind = next_entries_text (entries_told t.reasons.now t.left.now)
-          ++ string_bytes t.closing;
-      steps = length t.left.now + length (string_bytes t.closing);
+      behind = slates_text (slates_left t.slates)
+          ++ (next_entries_text (entries_told t.reasons.now t.left.now) ++ string_bytes t.closing);
+      steps = length (slates_left t.slates)
+          + (length t.left.now * (length t.slates.all.items + 1) + length (string_bytes t.closing));
     } };
 
     ghost invariant = { λ t. CanGive t.reasons.now t.left.now t.tails.items t.room
-        (string_capacity t.piece) };
+        (string_capacity t.piece) t.slates };
 }
 
 impl<'c> CertificateText<'c> {
-    /// The text of a certificate, of which nothing was given.
-    pub fn of(alloc: Global, certificate: &'c Certificate) -> Result<Self, AllocError>
+    // The text of a certificate, of which nothing was given, with so many slates.
+    fn with_slates(
+        alloc: Global,
+        certificate: &'c Certificate,
+        count: usize,
+    ) -> Result<Self, AllocError>
         ensures text { IfOk result (λ text. text_left text ≡ certificate_text certificate.now) }
         ensures fits { IfOk result (λ _. CertificateFits certificate.now) }
     {
@@ -172,15 +115,21 @@ impl<'c> CertificateText<'c> {
         questions_fit(told);
         let tails = tails_of(alloc, reasons)?;
         let room = room_for(&tails)?;
+        let each = entries_each(count, room);
+        let Some(bytes) = each.checked_mul(room) else {
+            return Err(AllocError);
+        };
         let mut piece = String::with_capacity(alloc, PIECE_BYTES)?;
         push_opening(&mut piece, certificate)?;
         let left = push_first_entry(&mut piece, told, reasons)?;
-        piece.reserve(room)?;
+        piece.reserve(bytes)?;
+        let slates = Slates::of(alloc, count, each, bytes)?;
         let heads = Heads::of(alloc, NO_QUESTION)?;
-        let middles = Middles::for_entries(alloc, told.len())?;
+        let middles = Middles::for_entries(alloc, told)?;
         let closing = closing_of(alloc, certificate)?;
         Ok(CertificateText {
             piece,
+            slates,
             left,
             reasons,
             tails,
@@ -189,6 +138,23 @@ impl<'c> CertificateText<'c> {
             room,
             closing,
         })
+    }
+
+    /// The text of a certificate, of which nothing was given.
+    pub fn of(alloc: Global, certificate: &'c Certificate) -> Result<Self, AllocError>
+        ensures text { IfOk result (λ text. text_left text ≡ certificate_text certificate.now) }
+        ensures fits { IfOk result (λ _. CertificateFits certificate.now) }
+    {
+        CertificateText::with_slates(alloc, certificate, 0)
+    }
+
+    /// The same, for threads to write it where it is long, which takes some memory more.
+    pub fn for_threads(alloc: Global, certificate: &'c Certificate) -> Result<Self, AllocError>
+        ensures text { IfOk result (λ text. text_left text ≡ certificate_text certificate.now) }
+        ensures fits { IfOk result (λ _. CertificateFits certificate.now) }
+    {
+        let count = slate_count(certificate.entries.len());
+        CertificateText::with_slates(alloc, certificate, count)
     }
 
     /// The piece at hand.
@@ -203,6 +169,9 @@ impl<'c> CertificateText<'c> {
         ensures more { IsTrue result → 0 < self.now.steps }
         ensures end { IsFalse result → self.now.behind ≡ [] }
     {
+        if self.slates.has_next() {
+            return true;
+        }
         if !self.left.is_empty() {
             return true;
         }
@@ -214,6 +183,10 @@ impl<'c> CertificateText<'c> {
         ensures text { text_left self.new ≡ self.old.behind }
         ensures fewer { 0 < self.old.steps → self.new.steps < self.old.steps }
     {
+        if self.slates.has_next() {
+            self.slates.give_next(&mut self.piece);
+            return;
+        }
         self.piece.clear();
         if self.left.is_empty() {
             swap(&mut self.piece, &mut self.closing);
@@ -222,12 +195,37 @@ impl<'c> CertificateText<'c> {
         let left = put_entries(
             &mut self.piece,
             &mut self.heads,
-            &mut self.middles,
+            &self.middles,
             self.left,
             self.reasons,
             &self.tails,
             self.room,
         );
         self.left = left;
+    }
+
+    // Has threads write the next pieces, where none is left of those that they wrote.
+    fn write_slates(&mut self, rt: &(impl Threads + Sync))
+        ensures piece { self.new.piece ≡ self.old.piece }
+        ensures behind { self.new.behind ≡ self.old.behind }
+        ensures steps { self.new.steps ≤ self.old.steps }
+        ensures some { 0 < self.old.steps → 0 < self.new.steps }
+    {
+        if self.slates.has_next() || self.left.is_empty() {
+            return;
+        }
+        let behind = self
+            .slates
+            .write(rt, self.left, self.reasons, &self.tails, &self.middles);
+        self.left = behind;
+    }
+
+    /// The same by several threads, for a text that has room for them.
+    pub fn advance_par(&mut self, rt: &(impl Threads + Sync))
+        ensures text { text_left self.new ≡ self.old.behind }
+        ensures fewer { 0 < self.old.steps → self.new.steps < self.old.steps }
+    {
+        self.write_slates(rt);
+        self.advance();
     }
 }

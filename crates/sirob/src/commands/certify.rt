@@ -29,7 +29,7 @@ use std::thread::Threads;
 // Writes the text of a certificate, piece by piece, and a line feed; or nothing where memory runs
 // out.
 fn write_certificate<K: Sink>(
-    alloc: Global,
+    rt: &(impl AllocGlobal + Threads + Sync),
     certificate: &Certificate,
     sink: &mut K,
 ) -> Result<Status, CommandFault>
@@ -37,8 +37,8 @@ fn write_certificate<K: Sink>(
     ensures { WritesWithEnd (IsTextOrStop (certificate_text certificate.now ++ 10 ∷ []) status.Done)
         (K.has_failed sink.new) (K.taken sink.old) (K.taken sink.new) result }
 {
-    let mut text = CertificateText::of(alloc, certificate)?;
-    match write_pieces(sink, &mut text) {
+    let mut text = CertificateText::for_threads(rt.alloc(), certificate)?;
+    match write_pieces(rt, sink, &mut text) {
         Ok(()) => write_lines(sink, b"\n", Ok(Status::Done)),
         Err(_) => Err(CommandFault::Part(PartFault::WriteFault)),
     }
@@ -105,7 +105,7 @@ pub fn certify_input<K: Sink>(
     let (set, finding) = input_finding(rt, input)?;
     match finding {
         Finding::Robust(certificate) => {
-            let ended = write_certificate(rt.alloc(), &certificate, sink);
+            let ended = write_certificate(rt, &certificate, sink);
             *found = Some(Finding::Robust(certificate));
             ended
         }

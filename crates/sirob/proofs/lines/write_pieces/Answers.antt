@@ -26,18 +26,18 @@ pub loop-text-preserved : goal.loop-text-preserved
 loop-text-preserved g c = record {
   working = search rules;
   given =
-      next_taken (g.K.Sink.taken c.args.sink.now) (g.K.Sink.taken c.loop-text.sink) (g.K.Sink.taken c.write_whole-in-loop-text.new.sink) c.loop-text.text c.advance.new.self c.piece-in-loop-text.result.now c.as_bytes-in-loop-text.result.now (text_left c.args.text.now)
-      c.advance.ensures.text c.piece-in-loop-text.ensures c.as_bytes-in-loop-text.ensures.value c.loop-text.invariant.given c.in_ok-write_whole-2.ensures.whole;
+      next_taken (g.K.Sink.taken c.args.sink.now) (g.K.Sink.taken c.loop-text.sink) (g.K.Sink.taken c.write_whole-in-loop-text.new.sink) c.loop-text.text c.advance_par.new.self c.piece-in-loop-text.result.now c.as_bytes-in-loop-text.result.now (text_left c.args.text.now)
+      c.advance_par.ensures.text c.piece-in-loop-text.ensures c.as_bytes-in-loop-text.ensures.value c.loop-text.invariant.given c.in_ok-write_whole-2.ensures.whole;
 }
 
 pub loop-text-smaller : goal.loop-text-smaller
-loop-text-smaller g c = c.advance.ensures.fewer (c.has_more.ensures.more (search rules))
+loop-text-smaller g c = c.advance_par.ensures.fewer (c.has_more.ensures.more (search rules))
 
 pub returns-in_err-write_whole-2-clause-first : goal.returns-in_err-write_whole-2-clause-first
 returns-in_err-write_whole-2-clause-first g c =
     anyway c.from_residual-in_err-write_whole-2.result
-    (next_lost (g.K.Sink.taken c.args.sink.now) (g.K.Sink.taken c.loop-text.sink) (g.K.Sink.taken c.write_whole-in-loop-text.new.sink) c.loop-text.text c.advance.new.self c.piece-in-loop-text.result.now c.as_bytes-in-loop-text.result.now (text_left c.args.text.now)
-    c.advance.ensures.text c.piece-in-loop-text.ensures c.as_bytes-in-loop-text.ensures.value c.loop-text.invariant.given c.in_err-write_whole-2.ensures.first)
+    (next_lost (g.K.Sink.taken c.args.sink.now) (g.K.Sink.taken c.loop-text.sink) (g.K.Sink.taken c.write_whole-in-loop-text.new.sink) c.loop-text.text c.advance_par.new.self c.piece-in-loop-text.result.now c.as_bytes-in-loop-text.result.now (text_left c.args.text.now)
+    c.advance_par.ensures.text c.piece-in-loop-text.ensures c.as_bytes-in-loop-text.ensures.value c.loop-text.invariant.given c.in_err-write_whole-2.ensures.first)
 
 pub returns-clause-whole : goal.returns-clause-whole
 returns-clause-whole g c =

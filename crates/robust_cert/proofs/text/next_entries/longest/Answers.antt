@@ -2,7 +2,7 @@ use Rattle.std.proofs.Common.{◌≤◌, length, String, string_bytes, ap, subst
 use Rattle.std.specs.Prelude.{All}
 use Rattle.std.specs.declared.alloc.Global.{Global}
 use Rattle.robust_cert.proofs.Pieces.{longer}
-use Rattle.robust_cert.proofs.text.pieces.longest.Goals as goal
+use Rattle.robust_cert.proofs.text.next_entries.longest.Goals as goal
 
 pub loop-tail-preserved : goal.loop-tail-preserved
 loop-tail-preserved c =

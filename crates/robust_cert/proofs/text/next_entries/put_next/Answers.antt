@@ -5,7 +5,7 @@ use Rattle.robust_cert.specs.Sharing.{reason_at}
 use Rattle.robust_cert.proofs.Pieces.{head_length}
 use Rattle.robust_cert.proofs.Shared.{reason_any}
 use Rattle.robust_cert.proofs.Texts.{next_written}
-use Rattle.robust_cert.proofs.text.pieces.put_next.Goals as goal
+use Rattle.robust_cert.proofs.text.next_entries.put_next.Goals as goal
 
 pub put_str-requires : goal.put_str-requires
 put_str-requires c =
@@ -21,6 +21,11 @@ pub put_str-requires-2 : goal.put_str-requires-2
 put_str-requires-2 c =
     let short = head_length c.renew.new.self c.args.told.question c.index-reasons-number.result c.with_reason.result.now c.with_reason.ensures c.renew.ensures.head c.renew.ensures.fits in
     omega (arith, c.requires.room, short, ap length c.tail_at.ensures.text, c.put_str.ensures.len, c.put_str.ensures.capacity, c.put_access.ensures.len, c.put_access.ensures.capacity)
+
+pub returns-clause-len : goal.returns-clause-len
+returns-clause-len c =
+    let short = head_length c.renew.new.self c.args.told.question c.index-reasons-number.result c.with_reason.result.now c.with_reason.ensures c.renew.ensures.head c.renew.ensures.fits in
+    omega (arith, short, ap length c.tail_at.ensures.text, c.put_str.ensures.len, c.put_access.ensures.len, c.put_str-2.ensures.len)
 
 pub returns-clause-text : goal.returns-clause-text
 returns-clause-text c =

@@ -1,7 +1,7 @@
 use Rattle.std.proofs.Common.{◌≤◌, length, take, String, string_bytes}
 use Rattle.std.specs.Prelude.{All}
 use Rattle.std.specs.declared.alloc.Global.{Global}
-use Rattle.robust_cert.proofs.text.pieces.longest.Given as goal
+use Rattle.robust_cert.proofs.text.next_entries.longest.Given as goal
 
 -- no tail so far is longer
 abbrev pub invariant-loop-tail : goal.invariant-loop-tail

@@ -1,7 +1,7 @@
 use Rattle.std.proofs.Common.{◌≤◌, ◌+◌, length, String, string_bytes, arith}
 use Rattle.std.proofs.lemmas.List.Elements.{All-weaker}
 use Rattle.std.specs.declared.alloc.Global.{Global}
-use Rattle.robust_cert.proofs.text.pieces.room_for.Goals as goal
+use Rattle.robust_cert.proofs.text.next_entries.room_for.Goals as goal
 
 pub returns : goal.returns
 returns c =
