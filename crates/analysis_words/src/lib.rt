@@ -5,8 +5,8 @@
 
 mod advice;
 mod certificate_faults;
-mod covering;
 mod edges;
+mod entry_counts;
 mod instances;
 mod left;
 mod levels;

@@ -1,13 +1,12 @@
 //! What a certificate shows of a robust set, in words.
 ghost use Rattle.std.specs.Prelude.{◌≡◌, IfOk, string_bytes};
 ghost use Rattle.std.specs.List.{range_with_len};
-ghost use Rattle.robust_cert.specs.Sharing.{reason_at, HasReason};
 ghost use Rattle.analysis_words.specs.Nodes.{seen, sight_of};
-ghost use Rattle.analysis_words.specs.Robust.{apart_count, entries_text, is_apart, IsMostText};
+ghost use Rattle.analysis_words.specs.Robust.{apart_count, entries_text, IsMostText};
 ghost use Rattle.analysis_words.specs.Robust.{levels_text, questions_text, reasons_text};
 ghost use Rattle.analysis_words.specs.Robust.{SaysRobust};
 
-use crate::covering::{Covering, most_covering};
+use crate::entry_counts::{Covering, EntryCounts};
 use crate::levels::level_list;
 use crate::limits::MAX_LEVELS;
 use crate::shared_words::more_text;
@@ -15,37 +14,8 @@ use crate::shown::{Shown, access_text};
 use crate::shown_set::ShownSet;
 use prog_check::ProgramSet;
 use prog_paths::question_count;
-use robust_cert::{Certificate, Entries, Reason, Told};
+use robust_cert::Certificate;
 use std::alloc::{AllocError, Global};
-
-// Whether questions with this reason never meet.
-fn is_apart(reason: &Reason) -> bool
-    ensures { result ≡ is_apart reason.now }
-{
-    matches!(reason, Reason::Apart(_))
-}
-
-fn is_told_apart(told: &Told, reasons: &[Reason]) -> bool
-    requires { HasReason reasons.now told.now }
-    ensures { result ≡ is_apart (reason_at reasons.now told.now.reason) }
-{
-    let number = told.reason as usize;
-    is_apart(&reasons[number])
-}
-
-// Of how many questions the two accesses never meet.
-fn apart_count(entries: &Entries) -> usize
-    ensures { result ≡ apart_count entries.now }
-{
-    let (all, reasons) = entries.parts();
-    let mut count = 0;
-    for told in all {
-        if is_told_apart(told, reasons) {
-            count += 1;
-        }
-    }
-    count
-}
 
 fn reasons_text(alloc: Global, apart: usize, covered: usize) -> Result<String, AllocError>
     ensures { IfOk result (λ text. string_bytes text ≡ reasons_text apart covered) }
@@ -54,12 +24,16 @@ fn reasons_text(alloc: Global, apart: usize, covered: usize) -> Result<String, A
 }
 
 // How many questions have each of the two reasons.
-fn entries_text(alloc: Global, certificate: &Certificate) -> Result<String, AllocError>
+fn entries_text(
+    alloc: Global,
+    certificate: &Certificate,
+    counts: &EntryCounts,
+) -> Result<String, AllocError>
+    requires { counts.now.apart ≡ apart_count certificate.now.entries }
     ensures { IfOk result (λ text. string_bytes text ≡ entries_text certificate.now) }
 {
-    let apart = apart_count(&certificate.entries);
-    let covered = certificate.entries.len().saturating_sub(apart);
-    reasons_text(alloc, apart, covered)
+    let covered = certificate.entries.len().saturating_sub(counts.apart);
+    reasons_text(alloc, counts.apart, covered)
 }
 
 // How many covers an access takes part in, and which it is.
@@ -70,21 +44,16 @@ fn covering_text(alloc: Global, count: u64, access: &str) -> Result<String, Allo
 }
 
 // The access that takes part in most covers.
-fn most_text(
-    alloc: Global,
-    shown: Shown<'_>,
-    certificate: &Certificate,
-) -> Result<String, AllocError>
+fn most_text(alloc: Global, shown: Shown<'_>, counts: &EntryCounts) -> Result<String, AllocError>
     ensures { IfOk result (λ text. IsMostText (string_bytes text)) }
 {
-    let most = most_covering(alloc, shown.paths, &certificate.entries)?;
     let Some(
         Covering {
             node,
             access,
             count,
         },
-    ) = most
+    ) = counts.most_covering()
     else {
         return Ok(String::new(alloc));
     };
@@ -123,13 +92,15 @@ fn levels_text(
 fn questions_text(
     alloc: Global,
     certificate: &Certificate,
+    counts: &EntryCounts,
     asked: usize,
     most: &str,
 ) -> Result<String, AllocError>
+    requires { counts.now.apart ≡ apart_count certificate.now.entries }
     ensures { IfOk result (λ text. string_bytes text
         ≡ questions_text certificate.now asked most.now) }
 {
-    let entries = entries_text(alloc, certificate)?;
+    let entries = entries_text(alloc, certificate, counts)?;
     let left = asked.saturating_sub(certificate.entries.len());
     format!(in alloc;
         "each run of this set has a serial order: of {asked} pairs of accesses that could touch one row, \
@@ -146,9 +117,10 @@ fn sentence(
     ensures { IfOk result (λ words. SaysRobust (seen shown.entry) certificate.now
         (string_bytes words)) }
 {
-    let most = most_text(alloc, shown, certificate)?;
+    let counts = EntryCounts::of(alloc, shown.paths, &certificate.entries)?;
+    let most = most_text(alloc, shown, &counts)?;
     let asked = question_count(shown.paths);
-    let questions = questions_text(alloc, certificate, asked, &most)?;
+    let questions = questions_text(alloc, certificate, &counts, asked, &most)?;
     let levels = levels_text(alloc, shown, certificate)?;
     format!(in alloc; "{questions}levels: {levels}\n")
 }
