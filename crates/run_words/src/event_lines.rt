@@ -1,7 +1,7 @@
 //! The lines on which the events of a script stand.
 
 use crate::forms::is_event;
-use si_engine::cut;
+use si_engine::{cut, unsigned};
 use text_places::{as_text, behind};
 
 /// How far a script was read to find the line of an event.
@@ -23,7 +23,7 @@ fn cut_word(line: &[u8]) -> (&[u8], &[u8]) {
 fn step_count(words: &[u8]) -> usize {
     let (_instance, rest) = cut_word(words);
     let (times, _) = cut_word(rest);
-    as_text(times).parse::<usize>().unwrap_or(1)
+    unsigned(times).unwrap_or(1) as usize
 }
 
 // How many events a line of a script is.
