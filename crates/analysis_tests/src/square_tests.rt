@@ -1,6 +1,6 @@
 //! Which node is joined to which.
 
-use order_facts::Square;
+use order_facts::{NodeSet, Square};
 use prog_paths::{EdgeTables, Mark};
 
 #[test]
@@ -66,4 +66,18 @@ fn a_row_takes_in_another_and_is_walked(rt: HostRuntime) {
         square.next(2, 0),
     ];
     assert!(rt; walked == [Some(1), Some(69), Some(69), None]);
+}
+
+#[test]
+fn a_row_takes_in_a_set(rt: HostRuntime) {
+    let mut square = Square::new(rt.alloc(), 70).expect(&rt, "memory");
+    let mut set = NodeSet::new(rt.alloc(), 70).expect(&rt, "memory");
+    set.insert(3);
+    set.clear();
+    set.insert(0);
+    set.insert(69);
+    square.join_set(1, &set);
+    assert!(rt; set.size() == 70);
+    let walked = [square.next(1, 0), square.next(1, 1), square.next(0, 0)];
+    assert!(rt; walked == [Some(0), Some(69), None]);
 }

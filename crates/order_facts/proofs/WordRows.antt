@@ -1,5 +1,5 @@
 -- Rows of words as square tables.
-use Rattle.std.proofs.Common.{◌≡◌, ◌≢◌, ℕ, zero, suc, ◌<◌, ◌≤◌, ◌+◌, ◌-◌, ◌*◌, ◌/◌, ◌%◌, ◌^◌, ◌⊎◌, inl, inr, max, List, true, false, ◌||◌, length, get_or, set, replicate, refl, sym, ap, subst, ◌∙◌, arith, get_or-set_same, get_or-set_other, bit_and, bit_or, w64}
+use Rattle.std.proofs.Common.{◌≡◌, ◌≢◌, ℕ, zero, suc, ◌<◌, ◌≤◌, ◌+◌, ◌-◌, ◌*◌, ◌/◌, ◌%◌, ◌^◌, ◌⊎◌, inl, inr, max, List, Bool, true, false, ◌||◌, length, get_or, set, replicate, refl, sym, ap, subst, ◌∙◌, arith, get_or-set_same, get_or-set_other, bit_and, bit_or, w64}
 use Rattle.std.specs.Prelude.{◌==◌}
 use Rattle.std.specs.Int.{bit_at, trailing_zeros}
 use Rattle.std.proofs.Math.Nat.{div-div-eq-div-mul, div-lt_iff_lt-mul, pos_of_ne-zero, mod-lt, div-le_self, mul-le-mul_right}
@@ -7,10 +7,11 @@ use Rattle.std.proofs.lemmas.Nat.{mul-add-lt, div-mul-add, mod-mul-add, div-add-
 use Rattle.std.proofs.lemmas.Nat.Bits.{bit_at-zero, bit_at-lt, bit_at-trailing_zeros, bit_at_above, bit_at_or, bit_at_set_same, bit_at_set_other, shr_and_one}
 use Rattle.std.proofs.lemmas.List.{length-set}
 use Rattle.std.proofs.lemmas.Bool.Decides.{eqb_tells}
-use Rattle.std.proofs.lemmas.List.FromFn.{get_or-map-range_with_len}
+use Rattle.std.proofs.lemmas.List.FromFn.{get_or-map-range_with_len, length-map-range_with_len}
 use Rattle.std.proofs.lemmas.Bool.{cases_lt, eq-eqb, false≢true}
-use Rattle.order_facts.specs.Square.{Grid, entry, Joins, IsEmptySquare, RaisesEntry, JoinsRow}
-use Rattle.order_facts.specs.Words.{has_bit, row_bit, grid_of, AreRows, JoinsWords, IsNextBit, IsNextJoined}
+use Rattle.order_facts.specs.Sets.{is_in, IsEmptySet, InsertsNode}
+use Rattle.order_facts.specs.Square.{Grid, entry, Joins, IsEmptySquare, RaisesEntry, JoinsBy, JoinsRow, JoinsSet}
+use Rattle.order_facts.specs.Words.{has_bit, row_bit, grid_of, set_of, AreRows, JoinsWords, IsNextBit, IsNextJoined}
 
 -- ---- one word
 
@@ -76,33 +77,37 @@ bit_read size width words from to p q = ap (λ (k : ℕ). k == 1) (shr_and_one (
 
 -- ---- one bit more
 
-abbrev with_bit : ℕ → List ℕ → ℕ → ℕ → List ℕ
-with_bit width words from to = set words (from * width + to / 64) (bit_or (get_or words (from * width + to / 64) 0) (1 * 2 ^ (to % 64) % 2 ^ 64))
+-- one bit more is set in the word at a place
+abbrev with_bit_at : List ℕ → (place n : ℕ) → List ℕ
+with_bit_at words place n = set words place (bit_or (get_or words place 0) (1 * 2 ^ n % 2 ^ 64))
 
-bit_here : (width : ℕ) (words : List ℕ) (from to : ℕ) → from * width + to / 64 < length words → row_bit width (with_bit width words from to) from to ≡ true
-bit_here width words from to inside =
-    let word = get_or words (from * width + to / 64) 0 in
-    ap (λ (w : ℕ). has_bit w (to % 64)) (get_or-set_same words (from * width + to / 64) _ 0 inside)
-    ∙ eq-eqb _ _ (bit_at_set_same w64 word (to % 64) (mod-lt to (omega arith)))
+bit-here_at : (words : List ℕ) (place n : ℕ) → place < length words → n < 64 → has_bit (get_or (with_bit_at words place n) place 0) n ≡ true
+bit-here_at words place n inside small = ap (λ (w : ℕ). has_bit w n) (get_or-set_same words place _ 0 inside) ∙ eq-eqb _ _ (bit_at_set_same w64 (get_or words place 0) n small)
 
-bit_other : (width : ℕ) (words : List ℕ) (from to i j : ℕ) → from * width + to / 64 < length words → to / 64 < width → j / 64 < width → ¬ ((i ≡ from) × (j ≡ to)) → row_bit width (with_bit width words from to) i j ≡ row_bit width words i j
-bit_other width words from to i j inside to_in j_in other = go (eqb_tells (i * width + j / 64) (from * width + to / 64))
+bit-other_at : (words : List ℕ) (place n other m : ℕ) → place < length words → n < 64 → ¬ ((other ≡ place) × (m ≡ n)) → has_bit (get_or (with_bit_at words place n) other 0) m ≡ has_bit (get_or words other 0) m
+bit-other_at words place n other m inside small apart = go (eqb_tells other place)
   where
     word : ℕ
-    word = get_or words (from * width + to / 64) 0
+    word = get_or words place 0
 
     new : ℕ
-    new = bit_or word (1 * 2 ^ (to % 64) % 2 ^ 64)
+    new = bit_or word (1 * 2 ^ n % 2 ^ 64)
 
-    go : (((i * width + j / 64 == from * width + to / 64) ≡ true) × (i * width + j / 64 ≡ from * width + to / 64)) ⊎ (((i * width + j / 64 == from * width + to / 64) ≡ false) × (i * width + j / 64 ≢ from * width + to / 64)) → row_bit width (with_bit width words from to) i j ≡ row_bit width words i j
+    go : (((other == place) ≡ true) × (other ≡ place)) ⊎ (((other == place) ≡ false) × (other ≢ place)) → has_bit (get_or (with_bit_at words place n) other 0) m ≡ has_bit (get_or words other 0) m
     go (inl e) =
-        let same = same_from_place i (j / 64) from (to / 64) width j_in to_in e.1 in
-        let apart : j % 64 ≢ to % 64 = λ r. other (same.0, sym (div-add-mod' j 64) ∙ (λ t. same.1 t * 64 + r t) ∙ div-add-mod' to 64) in
-        ap (λ (p : ℕ). has_bit (get_or (set words (from * width + to / 64) new) p 0) (j % 64)) e.1
-        ∙ ap (λ (w : ℕ). has_bit w (j % 64)) (get_or-set_same words (from * width + to / 64) new 0 inside)
-        ∙ ap (λ (b : ℕ). b == 1) (bit_at_set_other w64 word (to % 64) (mod-lt to (omega arith)) (j % 64) apart)
-        ∙ ap (λ (p : ℕ). has_bit (get_or words p 0) (j % 64)) (sym e.1)
-    go (inr n) = ap (λ (w : ℕ). has_bit w (j % 64)) (get_or-set_other words (from * width + to / 64) (i * width + j / 64) new 0 n.1)
+        ap (λ (p : ℕ). has_bit (get_or (set words place new) p 0) m) e.1
+        ∙ ap (λ (w : ℕ). has_bit w m) (get_or-set_same words place new 0 inside)
+        ∙ ap (λ (b : ℕ). b == 1) (bit_at_set_other w64 word n small m (λ r. apart (e.1, r)))
+        ∙ ap (λ (p : ℕ). has_bit (get_or words p 0) m) (sym e.1)
+    go (inr d) = ap (λ (w : ℕ). has_bit w m) (get_or-set_other words place other new 0 d.1)
+
+abbrev with_bit : ℕ → List ℕ → ℕ → ℕ → List ℕ
+with_bit width words from to = with_bit_at words (from * width + to / 64) (to % 64)
+
+bit_other : (width : ℕ) (words : List ℕ) (from to i j : ℕ) → from * width + to / 64 < length words → to / 64 < width → j / 64 < width → ¬ ((i ≡ from) × (j ≡ to)) → row_bit width (with_bit width words from to) i j ≡ row_bit width words i j
+bit_other width words from to i j inside to_in j_in other =
+    bit-other_at words (from * width + to / 64) (to % 64) (i * width + j / 64) (j % 64) inside (mod-lt to (omega arith))
+    (λ h. let same = same_from_place i (j / 64) from (to / 64) width j_in to_in h.0 in other (same.0, sym (div-add-mod' j 64) ∙ (λ t. same.1 t * 64 + h.1 t) ∙ div-add-mod' to 64))
 
 pub bit_raised : (size width : ℕ) (words : List ℕ) (old : Grid) (from to word : ℕ) → grid_of size width words ≡ old → AreRows size width words → from < old.size → to < old.size → word ≡ get_or words (from * width + to / 64) 0 → RaisesEntry old (grid_of size width (set words (from * width + to / 64) (bit_or word (1 * 2 ^ (to % 64) % 2 ^ 64)))) from to
 bit_raised size width words old from to word is are from_old to_old read =
@@ -115,7 +120,7 @@ bit_raised size width words old from to word is are from_old to_old read =
     (subst (λ (g : Grid). RaisesEntry g (grid_of size width new) from to) is
     (record {
       size = refl;
-      here = entry_is size width new from to p q ∙ bit_here width words from to inside;
+      here = entry_is size width new from to p q ∙ bit-here_at words (from * width + to / 64) (to % 64) inside (mod-lt to (omega arith));
       others = λ i j a b other.
           entry_is size width new i j a b
           ∙ bit_other width words from to i j inside (in_row size width to are.wide q) (in_row size width j are.wide b) other
@@ -124,29 +129,30 @@ bit_raised size width words old from to word is are from_old to_old read =
 
 -- ---- rows
 
+-- a word that is read was not written before
+pub unwritten : (old now others : List ℕ) (into from k : ℕ) → JoinsWords old now others into from k → ((j : ℕ) → j < k → into + j ≢ from + k) → get_or now (from + k) 0 ≡ get_or old (from + k) 0
+unwritten old now others into from k before apart = go (cases_lt (from + k) into) (cases_lt (from + k) (into + k))
+  where
+    go : (from + k < into) ⊎ (into ≤ from + k) → (from + k < into + k) ⊎ (into + k ≤ from + k) → get_or now (from + k) 0 ≡ get_or old (from + k) 0
+    go (inl l) h = before.before (from + k) l
+    go (inr l) (inr m) = before.behind (from + k) m
+    go (inr l) (inl m) = absurd (apart (from + k - into) (omega arith) (omega arith))
+
 -- one word more is joined
-pub joins_more : (old now : List ℕ) (into from k x y : ℕ) → JoinsWords old now into from k → ((j : ℕ) → j < k → into + j ≢ from + k) → into + k < length now → x ≡ get_or now (into + k) 0 → y ≡ get_or now (from + k) 0 → JoinsWords old (set now (into + k) (bit_or x y)) into from (k + 1)
-joins_more old now into from k x y before apart inside x_is y_is = record {
+pub joins_more : (old now others : List ℕ) (into from k x y : ℕ) → JoinsWords old now others into from k → into + k < length now → x ≡ get_or now (into + k) 0 → y ≡ get_or others (from + k) 0 → JoinsWords old (set now (into + k) (bit_or x y)) others into from (k + 1)
+joins_more old now others into from k x y before inside x_is y_is = record {
   size = length-set now (into + k) (bit_or x y) ∙ before.size;
   joined = λ j l. joined_at j (cases_lt j k) l;
   before = λ p l. let other : p ≢ into + k = omega arith in get_or-set_other now (into + k) p (bit_or x y) 0 other ∙ before.before p l;
   behind = λ p l. let other : p ≢ into + k = omega arith in get_or-set_other now (into + k) p (bit_or x y) 0 other ∙ before.behind p (omega arith);
 }
   where
-    unread : get_or now (from + k) 0 ≡ get_or old (from + k) 0
-    unread = go (cases_lt (from + k) into) (cases_lt (from + k) (into + k))
-      where
-        go : (from + k < into) ⊎ (into ≤ from + k) → (from + k < into + k) ⊎ (into + k ≤ from + k) → get_or now (from + k) 0 ≡ get_or old (from + k) 0
-        go (inl l) h = before.before (from + k) l
-        go (inr l) (inr m) = before.behind (from + k) m
-        go (inr l) (inl m) = absurd (apart (from + k - into) (omega arith) (omega arith))
-
-    joined_at : (j : ℕ) → (j < k) ⊎ (k ≤ j) → j < k + 1 → get_or (set now (into + k) (bit_or x y)) (into + j) 0 ≡ bit_or (get_or old (into + j) 0) (get_or old (from + j) 0)
+    joined_at : (j : ℕ) → (j < k) ⊎ (k ≤ j) → j < k + 1 → get_or (set now (into + k) (bit_or x y)) (into + j) 0 ≡ bit_or (get_or old (into + j) 0) (get_or others (from + j) 0)
     joined_at j (inl l) m = let other : into + j ≢ into + k = omega arith in get_or-set_other now (into + k) (into + j) (bit_or x y) 0 other ∙ before.joined j l
     joined_at j (inr l) m =
         let e : j ≡ k = omega arith in
-        subst (λ (n : ℕ). get_or (set now (into + k) (bit_or x y)) (into + n) 0 ≡ bit_or (get_or old (into + n) 0) (get_or old (from + n) 0)) (sym e)
-        (get_or-set_same now (into + k) (bit_or x y) 0 inside ∙ (λ t. bit_or ((x_is ∙ before.behind (into + k) (omega arith)) t) ((y_is ∙ unread) t)))
+        subst (λ (n : ℕ). get_or (set now (into + k) (bit_or x y)) (into + n) 0 ≡ bit_or (get_or old (into + n) 0) (get_or others (from + n) 0)) (sym e)
+        (get_or-set_same now (into + k) (bit_or x y) 0 inside ∙ (λ t. bit_or ((x_is ∙ before.behind (into + k) (omega arith)) t) (y_is t)))
 
 -- the words of a row are apart from those of another, or the same
 pub rows_apart : (row through width j k : ℕ) → j < k → k < width → row * width + j ≢ through * width + k
@@ -155,41 +161,101 @@ rows_apart row through width j k l m e = let same = same_from_place row j throug
 pub row_inside : (size width row : ℕ) (words : List ℕ) → AreRows size width words → row < size → row * width + width ≤ length words
 row_inside size width row words are l = omega (arith, are.all, mul-le-mul_right width (let m : row + 1 ≤ size = omega arith in m))
 
-bit_joined : (width : ℕ) (old new : List ℕ) (row through j : ℕ) → JoinsWords old new (row * width) (through * width) width → j / 64 < width → row_bit width new row j ≡ (row_bit width old row j || row_bit width old through j)
-bit_joined width old new row through j joins in_row = ap (λ (w : ℕ). has_bit w (j % 64)) (joins.joined (j / 64) in_row) ∙ has_bit-or _ _ (j % 64)
+bit_joined : (width count : ℕ) (old new others : List ℕ) (row from j : ℕ) → JoinsWords old new others (row * width) from count → j / 64 < count → row_bit width new row j ≡ (row_bit width old row j || has_bit (get_or others (from + j / 64) 0) (j % 64))
+bit_joined width count old new others row from j joins in_row = ap (λ (w : ℕ). has_bit w (j % 64)) (joins.joined (j / 64) in_row) ∙ has_bit-or _ _ (j % 64)
 
-bit_kept : (width : ℕ) (old new : List ℕ) (row through i j : ℕ) → JoinsWords old new (row * width) (through * width) width → j / 64 < width → ¬ (i ≡ row) → row_bit width new i j ≡ row_bit width old i j
-bit_kept width old new row through i j joins in_row other = ap (λ (w : ℕ). has_bit w (j % 64)) (go (cases_lt i row))
+bit_kept : (width count : ℕ) (old new others : List ℕ) (row from i j : ℕ) → JoinsWords old new others (row * width) from count → count ≤ width → j / 64 < width → ¬ (i ≡ row) → row_bit width new i j ≡ row_bit width old i j
+bit_kept width count old new others row from i j joins fits in_row other = ap (λ (w : ℕ). has_bit w (j % 64)) (go (cases_lt i row))
   where
     go : (i < row) ⊎ (row ≤ i) → get_or new (i * width + j / 64) 0 ≡ get_or old (i * width + j / 64) 0
     go (inl l) = joins.before (i * width + j / 64) (omega (arith, mul-le-mul_right width (let m : i + 1 ≤ row = omega arith in m)))
-    go (inr l) = joins.behind (i * width + j / 64) (omega (arith, mul-le-mul_right width (let m : row + 1 ≤ i = omega (arith, other) in m)))
+    go (inr l) = joins.behind (i * width + j / 64) (omega (arith, fits, mul-le-mul_right width (let m : row + 1 ≤ i = omega (arith, other) in m)))
 
-pub row_joined : (size width : ℕ) (words new : List ℕ) (old : Grid) (row through : ℕ) → grid_of size width words ≡ old → AreRows size width words → row < old.size → through < old.size → JoinsWords words new (row * width) (through * width) width → JoinsRow old (grid_of size width new) row through
-row_joined size width words new old row through is are row_old through_old joins =
+-- a row is joined with words that tell what a test does
+row-joined_by : (size width count : ℕ) (words new others : List ℕ) (old : Grid) (row from : ℕ) (test : ℕ → Bool) → grid_of size width words ≡ old → AreRows size width words → row < old.size → count ≤ width
+    → ((j : ℕ) → j < size → j / 64 < count) → ((j : ℕ) → j < size → has_bit (get_or others (from + j / 64) 0) (j % 64) ≡ test j)
+    → JoinsWords words new others (row * width) from count → JoinsBy old (grid_of size width new) row test
+row-joined_by size width count words new others old row from test is are row_old fits inside told joins =
     let same : size ≡ old.size = ap (λ (g : Grid). g.size) is in
     let p : row < size = omega (arith, same, row_old) in
-    let q : through < size = omega (arith, same, through_old) in
-    subst (λ (g : Grid). JoinsRow g (grid_of size width new) row through) is
+    subst (λ (g : Grid). JoinsBy g (grid_of size width new) row test) is
     (record {
       size = refl;
       here = λ j b.
           entry_is size width new row j p b
-          ∙ bit_joined width words new row through j joins (in_row size width j are.wide b)
-          ∙ (λ t. sym (entry_is size width words row j p b) t || sym (entry_is size width words through j q b) t);
+          ∙ bit_joined width count words new others row from j joins (inside j b)
+          ∙ (λ t. sym (entry_is size width words row j p b) t || told j b t);
       others = λ i j a b other.
           entry_is size width new i j a b
-          ∙ bit_kept width words new row through i j joins (in_row size width j are.wide b) other
+          ∙ bit_kept width count words new others row from i j joins fits (in_row size width j are.wide b) other
           ∙ sym (entry_is size width words i j a b);
     })
 
--- ---- an empty table
+pub row_joined : (size width : ℕ) (words new : List ℕ) (old : Grid) (row through : ℕ) → grid_of size width words ≡ old → AreRows size width words → row < old.size → through < old.size → JoinsWords words new words (row * width) (through * width) width → JoinsRow old (grid_of size width new) row through
+row_joined size width words new old row through is are row_old through_old joins =
+    let same : size ≡ old.size = ap (λ (g : Grid). g.size) is in
+    let q : through < size = omega (arith, same, through_old) in
+    row-joined_by size width width words new words old row (through * width) (λ j. entry old through j) is are row_old (omega arith) (λ j b. in_row size width j are.wide b)
+    (λ j b. sym (entry_is size width words through j q b) ∙ ap (λ (g : Grid). entry g through j) is) joins
+
+-- ---- sets
 
 get_or_zeros : (n p : ℕ) → ◌≡◌ {A = ℕ} (get_or (replicate n 0) p 0) 0
 get_or_zeros zero zero = refl
 get_or_zeros zero (suc p) = refl
 get_or_zeros (suc n) zero = refl
 get_or_zeros (suc n) (suc p) = get_or_zeros n p
+
+-- whether a node is in the set of some bits
+pub member_is : (size : ℕ) (words : List ℕ) (node : ℕ) → node < size → is_in (set_of size words) node ≡ has_bit (get_or words (node / 64) 0) (node % 64)
+member_is size words node p = get_or-map-range_with_len (λ n. has_bit (get_or words (n / 64) 0) (n % 64)) 0 size node node false p (omega arith)
+
+pub set_size : (size : ℕ) (words : List ℕ) → length (set_of size words) ≡ size
+set_size size words = length-map-range_with_len (λ n. has_bit (get_or words (n / 64) 0) (n % 64)) 0 size
+
+pub row-joined_with_set : (size width count of_set : ℕ) (words new bits : List ℕ) (old : Grid) (row : ℕ) → grid_of size width words ≡ old → AreRows size width words → row < old.size → count ≤ width
+    → length (set_of of_set bits) ≡ old.size → ((j : ℕ) → j < size → j / 64 < count)
+    → JoinsWords words new bits (row * width) 0 count → JoinsSet old (grid_of size width new) row (set_of of_set bits)
+row-joined_with_set size width count of_set words new bits old row is are row_old fits whole inside joins =
+    let same : size ≡ old.size = ap (λ (g : Grid). g.size) is in
+    row-joined_by size width count words new bits old row 0 (λ j. is_in (set_of of_set bits) j) is are row_old fits inside
+    (λ j b.
+    let e : 0 + j / 64 ≡ j / 64 = omega arith in
+    ap (λ (p : ℕ). has_bit (get_or bits p 0) (j % 64)) e ∙ sym (member_is of_set bits j (omega (arith, b, same, whole, set_size of_set bits)))) joins
+
+-- a set of no bits
+pub empty_set : (size n : ℕ) (words : List ℕ) → words ≡ replicate n 0 → IsEmptySet (set_of size words) size
+empty_set size n words zeros = record {
+  size_is = set_size size words;
+  none = λ node p.
+      member_is size words node p
+      ∙ ap (λ (ws : List ℕ). has_bit (get_or ws (node / 64) 0) (node % 64)) zeros
+      ∙ ap (λ (w : ℕ). has_bit w (node % 64)) (get_or_zeros n (node / 64))
+      ∙ ap (λ (b : ℕ). b == 1) (bit_at-zero (node % 64));
+}
+
+-- a set with one bit more
+pub node_inserted : (size : ℕ) (words : List ℕ) (old : List Bool) (node word : ℕ) → set_of size words ≡ old → size ≤ length words * 64 → node < length old → word ≡ get_or words (node / 64) 0
+    → InsertsNode old (set_of size (set words (node / 64) (bit_or word (1 * 2 ^ (node % 64) % 2 ^ 64)))) node
+node_inserted size words old node word is wide node_old read =
+    let same : size ≡ length old = sym (set_size size words) ∙ ap (λ (l : List Bool). length l) is in
+    let p : node < size = omega (arith, same, node_old) in
+    let inside = in_row size (length words) node wide p in
+    let new = with_bit_at words (node / 64) (node % 64) in
+    let small = mod-lt node (omega arith) in
+    subst (λ (w : ℕ). InsertsNode old (set_of size (set words (node / 64) (bit_or w (1 * 2 ^ (node % 64) % 2 ^ 64)))) node) (sym read)
+    (subst (λ (l : List Bool). InsertsNode l (set_of size new) node) is
+    (record {
+      size = set_size size new ∙ sym (set_size size words);
+      here = member_is size new node p ∙ bit-here_at words (node / 64) (node % 64) inside small;
+      others = λ other b apart.
+          let q : other < size = omega (arith, b, set_size size words) in
+          member_is size new other q
+          ∙ bit-other_at words (node / 64) (node % 64) (other / 64) (other % 64) inside small (λ h. apart (sym (div-add-mod' other 64) ∙ (λ t. h.0 t * 64 + h.1 t) ∙ div-add-mod' node 64))
+          ∙ sym (member_is size words other q);
+    }))
+
+-- ---- an empty table
 
 -- one row more
 pub empty_rows : (size width n : ℕ) (words : List ℕ) → words ≡ replicate n 0 → IsEmptySquare (grid_of size width words) size

@@ -1,6 +1,7 @@
 pub mod Chain
 pub mod Reaches
 pub mod Square
+pub mod Sets
 pub mod Words
 pub mod Matrix
 pub mod Sample

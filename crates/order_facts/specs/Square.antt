@@ -1,5 +1,6 @@
 -- Square tables of which node is joined to which.
 use Rattle.std.specs.Prelude.{◌≡◌, ℕ, ◌<◌, ◌+◌, ◌*◌, ◌||◌, ◌&&◌, List, Bool, true, false, slice_index_or}
+use Rattle.order_facts.specs.Sets.{is_in}
 
 -- so many nodes, and for each two of them whether the first is joined to the second, row by row
 pub record Grid : Type 0 where
@@ -40,8 +41,16 @@ pub record RaisesEntry (old new : Grid) (from to : ℕ) : Type 0 where
   pub here : entry new from to ≡ true
   pub others : (i j : ℕ) → i < old.size → j < old.size → ¬ ((i ≡ from) × (j ≡ to)) → entry new i j ≡ entry old i j
 
--- one row has what row `through` has too, and the other rows are as they were
-pub record JoinsRow (old new : Grid) (row through : ℕ) : Type 0 where
+-- one row joins what a test tells too, and the other rows are as they were
+pub record JoinsBy (old new : Grid) (row : ℕ) (test : ℕ → Bool) : Type 0 where
   pub size : new.size ≡ old.size
-  pub here : (j : ℕ) → j < old.size → entry new row j ≡ (entry old row j || entry old through j)
+  pub here : (j : ℕ) → j < old.size → entry new row j ≡ (entry old row j || test j)
   pub others : (i j : ℕ) → i < old.size → j < old.size → ¬ (i ≡ row) → entry new i j ≡ entry old i j
+
+-- what row `through` joins
+abbrev pub JoinsRow : (old new : Grid) → (row through : ℕ) → Type 0
+JoinsRow old new row through = JoinsBy old new row (λ j. entry old through j)
+
+-- the nodes of a set
+abbrev pub JoinsSet : (old new : Grid) → (row : ℕ) → (members : List Bool) → Type 0
+JoinsSet old new row members = JoinsBy old new row (λ j. is_in members j)

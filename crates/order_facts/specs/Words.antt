@@ -24,11 +24,15 @@ pub record AreRows (size width : ℕ) (words : List ℕ) : Type 0 where
   pub wide : size ≤ width * 64
   pub all : length words ≡ size * width
 
+-- the set of these bits
+abbrev pub set_of : ℕ → List ℕ → List Bool
+set_of size words = map (λ node. has_bit (slice_index words (node / 64)) (node % 64)) (range_with_len 0 size)
+
 -- so many words are joined with as many others, bit by bit, and the rest are as they were
-pub record JoinsWords (old new : List ℕ) (into from count : ℕ) : Type 0 where
+pub record JoinsWords (old new others : List ℕ) (into from count : ℕ) : Type 0 where
   pub size : length new ≡ length old
   pub joined : (k : ℕ) → k < count
-      → slice_index new (into + k) ≡ bit_or (slice_index old (into + k)) (slice_index old (from + k))
+      → slice_index new (into + k) ≡ bit_or (slice_index old (into + k)) (slice_index others (from + k))
   pub before : (p : ℕ) → p < into → slice_index new p ≡ slice_index old p
   pub behind : (p : ℕ) → into + count ≤ p → slice_index new p ≡ slice_index old p
 

@@ -11,6 +11,7 @@
 mod closed;
 mod given;
 mod matrix;
+mod node_set;
 mod nodes;
 mod sample;
 mod search;
@@ -20,6 +21,7 @@ mod ways;
 
 pub use closed::Closed;
 pub use given::{Facts, check_chain};
+pub use node_set::NodeSet;
 pub use nodes::Nodes;
 pub use sample::Sample;
 pub use square::Square;

@@ -2,10 +2,11 @@
 
 ghost use Rattle.std.specs.Prelude.{◌≡◌, ◌≢◌, ℕ, ◌+◌, ◌^◌, ◌<◌, ◌≤◌, length, IfOk, IfSome, IfNone};
 ghost use Rattle.std.specs.Int.{bit_at};
-ghost use Rattle.order_facts.specs.Square.{entry, Joins, IsEmptySquare, RaisesEntry, JoinsRow};
+ghost use Rattle.order_facts.specs.Square.{entry, Joins, IsEmptySquare, RaisesEntry, JoinsRow, JoinsSet};
 ghost use Rattle.order_facts.specs.Square.{JoinsThrough};
 ghost use Rattle.order_facts.specs.Words.{JoinsWords, IsNextBit, IsNextJoined};
 
+use crate::node_set::NodeSet;
 use std::alloc::{AllocError, Global};
 use std::marker::Model;
 
@@ -46,10 +47,21 @@ fn join_words(words: &mut Vec<u64>, into: usize, from: usize, count: usize)
     requires into { into + count ≤ length words.old.items }
     requires from { from + count ≤ length words.old.items }
     requires apart { (j k : ℕ) → j < k → k < count → into + j ≢ from + k }
-    ensures { JoinsWords words.old.items words.new.items into from count }
+    ensures { JoinsWords words.old.items words.new.items words.old.items into from count }
 {
     for k in 0..count {
         words[into + k] |= words[from + k];
+    }
+}
+
+/// Sets the bits of so many words of others in as many of these.
+fn join_others(words: &mut Vec<u64>, into: usize, others: &[u64], count: usize)
+    requires into { into + count ≤ length words.old.items }
+    requires others { count ≤ length others.now }
+    ensures { JoinsWords words.old.items words.new.items others.now into 0 count }
+{
+    for k in 0..count {
+        words[into + k] |= others[k];
     }
 }
 
@@ -116,6 +128,17 @@ impl Square {
     {
         let width = self.width;
         join_words(&mut self.words, row * width, through * width, width);
+    }
+
+    /// Joins the row's node to the nodes of a set.
+    pub fn join_set(&mut self, row: usize, set: &NodeSet)
+        requires row { row < self.old.size }
+        requires size { length set.now ≡ self.old.size }
+        ensures { JoinsSet self.old self.new row set.now }
+    {
+        let width = self.width;
+        let count = width.min(set.words.len());
+        join_others(&mut self.words, row * width, &set.words, count);
     }
 
     /// Joins whatever is joined to `through` to what that is joined to.
