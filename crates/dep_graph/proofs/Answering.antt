@@ -1,10 +1,10 @@
 -- What answers give that answer all questions of a list of paths: just the edges of the paths.
-use Rattle.std.proofs.Common.{◌≡◌, ℕ, ◌≤◌, ◌⊎◌, inl, inr, Bool, true, false, ◌||◌, ◌&&◌, List, [], ◌∷◌, map, take, take_all, length, Contains, refl, sym, subst, ap, ◌∙◌}
+use Rattle.std.proofs.Common.{◌≡◌, ℕ, ◌⊎◌, inl, inr, Bool, true, false, ◌||◌, ◌&&◌, List, length, Contains, refl, subst, ap, ◌∙◌}
 use Rattle.std.specs.Prelude.{◌==◌}
-use Rattle.std.specs.List.{flat_map, list_any}
-use Rattle.std.proofs.lemmas.Bool.{false≢true, and_parts, or_cases, eqb-true, false_from_ne_true}
+use Rattle.std.specs.List.{list_any}
+use Rattle.std.proofs.lemmas.Bool.{and_from, and_left, and_parts, eqb-true, or_cases, or_from, or_left, or_right}
 use Rattle.std.proofs.lemmas.List.Elements.{All-contains}
-use Rattle.std.proofs.lemmas.List.Folds.{list_any-append}
+use Rattle.order_facts.specs.Square.{Enters}
 use Rattle.prog_tree.proofs.Elements.{any_in, in_any}
 use Rattle.prog_check.specs.declared.path.Kind.{Kind}
 use Rattle.prog_check.specs.declared.path.Path.{Path}
@@ -21,64 +21,20 @@ use Rattle.conflict_pairs.specs.declared.verdicts.Verdict.{Verdict}
 use Rattle.conflict_pairs.specs.declared.verdicts.Verdict.TheVariants.{Apart, Covered, Exposed}
 use Rattle.conflict_pairs.specs.Classed.{ClassAnswer, Classed, HaveVerdict, IsRightOfEach, IsAnswerTo, AnswersAll}
 use Rattle.conflict_pairs.specs.Verdicts.{can_meet, is_exposed}
-use Rattle.dep_graph.specs.Marks.{given_by, mark_between, row_marks, answer_marks, marks_of, EntersMarks, IsTableOf}
+use Rattle.dep_graph.specs.Edges.{answer_edge, answer_vulnerable, are_of, given_by, is_one_of, EntersAnswer, IsTableOf}
 use Rattle.dep_graph.proofs.Deciding.{Meets, right-meets, right-exposed, edge-forward, edge-backward, vulnerable-forward}
-use Rattle.dep_graph.proofs.Entering.{EntersMarks-none, GiveMarks}
+use Rattle.dep_graph.proofs.Entering.{Enters-nothing, GiveAnswers}
 
--- ---- the marks of an answer
+-- ---- nodes of an answer
 
-any-mapped : {A B : Type 0} (p : B → Bool) (f : A → B) (xs : List A) → list_any p (map f xs) ≡ list_any (λ x. p (f x)) xs
-any-mapped p f [] = refl
-any-mapped p f (x ∷ xs) = ap (λ b. p (f x) || b) (any-mapped p f xs)
+among-from_one : (nodes : List ℕ) (n : ℕ) → is_one_of nodes n ≡ true → Contains nodes n
+among-from_one nodes n h = let f = any_in (λ m. m == n) nodes h in subst (λ (m : ℕ). Contains nodes m) (eqb-true f.0 n f.2) f.1
 
-any-flat : {A B : Type 0} (p : B → Bool) (f : A → List B) (xs : List A) → list_any p (flat_map f xs) ≡ list_any (λ x. list_any p (f x)) xs
-any-flat p f [] = refl
-any-flat p f (x ∷ xs) = list_any-append p (f x) (flat_map f xs) ∙ ap (λ b. list_any p (f x) || b) (any-flat p f xs)
+one-from_among : (nodes : List ℕ) (m n : ℕ) → Contains nodes m → (m == n) ≡ true → is_one_of nodes n ≡ true
+one-from_among nodes m n among same = in_any (λ k. k == n) nodes m among same
 
--- what an answer gives at some nodes
-abbrev pub mark_in : ClassAnswer → (x y : ℕ) → Mark
-mark_in e x y = mark_between (given_by e.mine e.theirs e.verdict) x y
-
--- at two nodes of an answer its mark passes a test
-pub record PassesIn (p : Mark → Bool) (e : ClassAnswer) : Type 0 where
-  pub x : ℕ
-  pub y : ℕ
-  pub first : Contains e.firsts x
-  pub second : Contains e.seconds y
-  pub passes : p (mark_in e x y) ≡ true
-
-module _ (p : Mark → Bool) (e : ClassAnswer) where
-  abbrev in_row : ℕ → List Mark
-  in_row x = row_marks (given_by e.mine e.theirs e.verdict) x e.seconds
-
-  passes-from_marks : list_any p (answer_marks e) ≡ true → PassesIn p e
-  passes-from_marks h =
-      let f = any_in (λ x. list_any p (in_row x)) e.firsts (sym (any-flat p in_row e.firsts) ∙ h) in
-      let s = any_in (λ y. p (mark_in e f.0 y)) e.seconds (sym (any-mapped p (λ y. mark_in e f.0 y) e.seconds) ∙ f.2) in
-      record { x = f.0; y = s.0; first = f.1; second = s.1; passes = s.2 }
-
-  marks-from_passes : PassesIn p e → list_any p (answer_marks e) ≡ true
-  marks-from_passes g =
-      any-flat p in_row e.firsts
-      ∙ in_any (λ x. list_any p (in_row x)) e.firsts g.x g.first
-      (any-mapped p (λ y. mark_in e g.x y) e.seconds ∙ in_any (λ y. p (mark_in e g.x y)) e.seconds g.y g.second g.passes)
-
--- some answer does
-pub record SomePasses (p : Mark → Bool) (answers : List ClassAnswer) : Type 0 where
-  pub answer : ClassAnswer
-  pub told : Contains answers answer
-  pub inside : PassesIn p answer
-
-module _ (p : Mark → Bool) (answers : List ClassAnswer) where
-  some-from_marks : list_any p (marks_of answers) ≡ true → SomePasses p answers
-  some-from_marks h =
-      let f = any_in (λ e. list_any p (answer_marks e)) answers (sym (any-flat p (λ e. answer_marks e) answers) ∙ h) in
-      record { answer = f.0; told = f.1; inside = passes-from_marks p f.0 f.2 }
-
-  marks-from_some : SomePasses p answers → list_any p (marks_of answers) ≡ true
-  marks-from_some s =
-      any-flat p (λ e. answer_marks e) answers
-      ∙ in_any (λ e. list_any p (answer_marks e)) answers s.answer s.told (marks-from_passes p s.answer s.inside)
+both-among : (xs ys : List ℕ) (x y : ℕ) → are_of xs ys x y ≡ true → Contains xs x × Contains ys y
+both-among xs ys x y h = let p = and_parts (is_one_of xs x) _ h in (among-from_one xs x p.0, among-from_one ys y p.1)
 
 -- ---- accesses that never meet
 
@@ -87,30 +43,27 @@ not_exposed (Apart chain) h = refl
 not_exposed (Covered m t chains) h = refl
 not_exposed (Exposed sample) h = h
 
-module _ (e : ClassAnswer) (apart : can_meet e.verdict ≡ false) where
-  no_edge : (i j : ℕ) → PassesIn (gives_edge i j) e → ⊥
-  no_edge i j g = by (or_cases ((mark_in e g.x g.y).forward && (g.x == i && g.y == j)) _ g.passes)
-    where
-      by : (((mark_in e g.x g.y).forward && (g.x == i && g.y == j)) ≡ true) ⊎ (((mark_in e g.x g.y).backward && (g.y == i && g.x == j)) ≡ true) → ⊥
-      by (inl h) = false≢true (sym apart ∙ (and_parts (can_meet e.verdict) _ (and_parts (mark_in e g.x g.y).forward _ h).0).0)
-      by (inr h) = false≢true (sym apart ∙ (and_parts (can_meet e.verdict) _ (and_parts (mark_in e g.x g.y).backward _ h).0).0)
+pub EntersAnswer-apart : (e : ClassAnswer) (tables : EdgeTables) → can_meet e.verdict ≡ false → EntersAnswer tables tables e
+EntersAnswer-apart e tables apart = record {
+  edges = Enters-nothing tables.edges _ (λ x y. or_from _ _ (and_left _ _ (and_left (can_meet e.verdict) _ apart)) (and_left _ _ (and_left (can_meet e.verdict) _ apart)));
+  vulnerable = Enters-nothing tables.vulnerable _ (λ x y. and_left _ _ (and_left (is_exposed e.verdict) _ (not_exposed e.verdict apart)));
+}
 
-  no_vulnerable : (i j : ℕ) → PassesIn (gives_vulnerable i j) e → ⊥
-  no_vulnerable i j g = false≢true (sym (not_exposed e.verdict apart) ∙ (and_parts (is_exposed e.verdict) _ (and_parts (mark_in e g.x g.y).vulnerable _ g.passes).0).0)
+-- ---- others
 
-  none-by : (p : Mark → Bool) → (PassesIn p e → ⊥) → list_any p (answer_marks e) ≡ false
-  none-by p not = false_from_ne_true (list_any p (answer_marks e)) (λ h. not (passes-from_marks p e h))
+-- what is given from some nodes to others is entered
+record EntersGiven (old new : EdgeTables) (given : Mark) (firsts seconds : List ℕ) : Type 0 where
+  edges : Enters old.edges new.edges (λ x y. (given.forward && are_of firsts seconds x y) || (given.backward && are_of seconds firsts x y))
+  vulnerable : Enters old.vulnerable new.vulnerable (λ x y. given.vulnerable && are_of firsts seconds x y)
 
-  pub EntersMarks-apart : (tables : EdgeTables) → EntersMarks tables tables (answer_marks e)
-  EntersMarks-apart tables = EntersMarks-none tables (answer_marks e) (λ i j. none-by (gives_edge i j) (no_edge i j)) (λ i j. none-by (gives_vulnerable i j) (no_vulnerable i j))
-
--- ---- all rows of an answer
-
-pub EntersMarks-answer : (e : ClassAnswer) (first new : EdgeTables) (mine theirs : Kind) (v : Verdict) (given : Mark) (firsts seconds : List ℕ) (n : ℕ) → given ≡ given_by mine theirs v → (mine ≡ e.mine) × (theirs ≡ e.theirs) → v ≡ e.verdict → firsts ≡ e.firsts → seconds ≡ e.seconds → length firsts ≤ n → EntersMarks first new (flat_map (λ x. row_marks given x seconds) (take n firsts)) → EntersMarks first new (answer_marks e)
-EntersMarks-answer e first new mine theirs v given firsts seconds n is kinds verdict is_firsts is_seconds all entered =
-    subst (λ (g : Mark). EntersMarks first new (flat_map (λ x. row_marks g x e.seconds) e.firsts)) (is ∙ same)
-    (subst (λ (ys : List ℕ). EntersMarks first new (flat_map (λ x. row_marks given x ys) e.firsts)) is_seconds
-    (subst (λ (xs : List ℕ). EntersMarks first new (flat_map (λ x. row_marks given x seconds) xs)) (take_all n firsts all ∙ is_firsts) entered))
+pub EntersAnswer-given : (e : ClassAnswer) (old new : EdgeTables) (mine theirs : Kind) (v : Verdict) (given : Mark) (firsts seconds : List ℕ) → given ≡ given_by mine theirs v → (mine ≡ e.mine) × (theirs ≡ e.theirs) → v ≡ e.verdict → firsts ≡ e.firsts → seconds ≡ e.seconds
+    → Enters old.edges new.edges (λ x y. (given.forward && are_of firsts seconds x y) || (given.backward && are_of seconds firsts x y))
+    → Enters old.vulnerable new.vulnerable (λ x y. given.vulnerable && are_of firsts seconds x y) → EntersAnswer old new e
+EntersAnswer-given e old new mine theirs v given firsts seconds is kinds verdict is_firsts is_seconds edges vulnerable =
+    let told = subst (λ (g : Mark). EntersGiven old new g e.firsts e.seconds) (is ∙ same)
+    (subst (λ (ys : List ℕ). EntersGiven old new given e.firsts ys) is_seconds
+    (subst (λ (xs : List ℕ). EntersGiven old new given xs seconds) is_firsts (record { edges = edges; vulnerable = vulnerable }))) in
+    record { edges = told.edges; vulnerable = told.vulnerable }
   where
     same : given_by mine theirs v ≡ given_by e.mine e.theirs e.verdict
     same = ap (λ (k : Kind). given_by k theirs v) kinds.0 ∙ ap (λ (k : Kind). given_by e.mine k v) kinds.1 ∙ ap (λ (w : Verdict). given_by e.mine e.theirs w) verdict
@@ -118,72 +71,83 @@ EntersMarks-answer e first new mine theirs v given firsts seconds n is kinds ver
 -- ---- what the answers give, the paths have
 
 module _ (paths : List Path) (e : ClassAnswer) (right : IsRightOfEach paths e) where
-  static-from_passes : (i j : ℕ) → PassesIn (gives_edge i j) e → StaticEdge paths i j
-  static-from_passes i j g = by (or_cases ((mark_in e g.x g.y).forward && (g.x == i && g.y == j)) _ g.passes)
+  static-from_answer : (x y : ℕ) → answer_edge x y e ≡ true → StaticEdge paths x y
+  static-from_answer x y h = by (or_cases ((given_by e.mine e.theirs e.verdict).forward && are_of e.firsts e.seconds x y) _ h)
     where
-      h : HaveVerdict paths g.x g.y e.mine e.theirs e.verdict
-      h = right g.x g.y g.first g.second
-
-      by : (((mark_in e g.x g.y).forward && (g.x == i && g.y == j)) ≡ true) ⊎ (((mark_in e g.x g.y).backward && (g.y == i && g.x == j)) ≡ true) → StaticEdge paths i j
+      by : (((given_by e.mine e.theirs e.verdict).forward && are_of e.firsts e.seconds x y) ≡ true) ⊎ (((given_by e.mine e.theirs e.verdict).backward && are_of e.seconds e.firsts x y) ≡ true) → StaticEdge paths x y
       by (inl k) =
-          let p = and_parts (mark_in e g.x g.y).forward _ k in
-          let ends = and_parts (g.x == i) _ p.1 in
+          let p = and_parts (given_by e.mine e.theirs e.verdict).forward _ k in
+          let ends = both-among e.firsts e.seconds x y p.1 in
           let m = and_parts (can_meet e.verdict) _ p.0 in
-          let edge = edge-forward paths g.x g.y e.mine e.theirs e.verdict h m.0 (or_cases _ _ m.1) in
-          subst (λ (n : ℕ). StaticEdge paths n j) (eqb-true _ _ ends.0) (subst (λ (n : ℕ). StaticEdge paths g.x n) (eqb-true _ _ ends.1) edge)
+          edge-forward paths x y e.mine e.theirs e.verdict (right x y ends.0 ends.1) m.0 (or_cases _ _ m.1)
       by (inr k) =
-          let p = and_parts (mark_in e g.x g.y).backward _ k in
-          let ends = and_parts (g.y == i) _ p.1 in
+          let p = and_parts (given_by e.mine e.theirs e.verdict).backward _ k in
+          let ends = both-among e.seconds e.firsts x y p.1 in
           let m = and_parts (can_meet e.verdict) _ p.0 in
-          let edge = edge-backward paths g.x g.y e.mine e.theirs e.verdict h m.0 (or_cases _ _ m.1) in
-          subst (λ (n : ℕ). StaticEdge paths n j) (eqb-true _ _ ends.0) (subst (λ (n : ℕ). StaticEdge paths g.y n) (eqb-true _ _ ends.1) edge)
+          edge-backward paths y x e.mine e.theirs e.verdict (right y x ends.1 ends.0) m.0 (or_cases _ _ m.1)
 
-  vulnerable-from_passes : (i j : ℕ) → PassesIn (gives_vulnerable i j) e → IsVulnerable paths i j
-  vulnerable-from_passes i j g =
-      let p = and_parts (mark_in e g.x g.y).vulnerable _ g.passes in
-      let ends = and_parts (g.x == i) _ p.1 in
+  vulnerable-from_answer : (x y : ℕ) → answer_vulnerable x y e ≡ true → IsVulnerable paths x y
+  vulnerable-from_answer x y h =
+      let p = and_parts (given_by e.mine e.theirs e.verdict).vulnerable _ h in
+      let ends = both-among e.firsts e.seconds x y p.1 in
       let m = and_parts (is_exposed e.verdict) _ p.0 in
-      let edge = vulnerable-forward paths g.x g.y e.mine e.theirs e.verdict (right g.x g.y g.first g.second) m.0 m.1 in
-      subst (λ (n : ℕ). IsVulnerable paths n j) (eqb-true _ _ ends.0) (subst (λ (n : ℕ). IsVulnerable paths g.x n) (eqb-true _ _ ends.1) edge)
+      vulnerable-forward paths x y e.mine e.theirs e.verdict (right x y ends.0 ends.1) m.0 m.1
 
 -- ---- what the paths have, the answers give
 
-same_mark : (q : Question) (e : ClassAnswer) → q.mine ≡ e.mine → q.theirs ≡ e.theirs → mark_by q (can_meet e.verdict) (is_exposed e.verdict) ≡ mark_in e q.x q.y
-same_mark q e mine theirs = rw (mine, theirs) refl
+module _ (paths : List Path) (q : Question) (e : ClassAnswer) (to_it : IsAnswerTo paths q e) where
+  as_given : mark_by q (can_meet e.verdict) (is_exposed e.verdict) ≡ record { x = q.x; y = q.y; forward = (given_by e.mine e.theirs e.verdict).forward; backward = (given_by e.mine e.theirs e.verdict).backward; vulnerable = (given_by e.mine e.theirs e.verdict).vulnerable }
+  as_given = rw (to_it.mine, to_it.theirs) refl
+
+  edge-answered : (x y : ℕ) → gives_edge x y (mark_by q (can_meet e.verdict) (is_exposed e.verdict)) ≡ true → answer_edge x y e ≡ true
+  edge-answered x y h = by (or_cases ((given_by e.mine e.theirs e.verdict).forward && (q.x == x && q.y == y)) _ (subst (λ (m : Mark). gives_edge x y m ≡ true) as_given h))
+    where
+      by : (((given_by e.mine e.theirs e.verdict).forward && (q.x == x && q.y == y)) ≡ true) ⊎ (((given_by e.mine e.theirs e.verdict).backward && (q.y == x && q.x == y)) ≡ true) → answer_edge x y e ≡ true
+      by (inl k) =
+          let p = and_parts (given_by e.mine e.theirs e.verdict).forward _ k in
+          let ends = and_parts (q.x == x) _ p.1 in
+          or_left _ _ (and_from _ _ p.0 (and_from _ _ (one-from_among e.firsts q.x x to_it.first ends.0) (one-from_among e.seconds q.y y to_it.second ends.1)))
+      by (inr k) =
+          let p = and_parts (given_by e.mine e.theirs e.verdict).backward _ k in
+          let ends = and_parts (q.y == x) _ p.1 in
+          or_right _ _ (and_from _ _ p.0 (and_from _ _ (one-from_among e.seconds q.y x to_it.second ends.0) (one-from_among e.firsts q.x y to_it.first ends.1)))
+
+  vulnerable-answered : (x y : ℕ) → gives_vulnerable x y (mark_by q (can_meet e.verdict) (is_exposed e.verdict)) ≡ true → answer_vulnerable x y e ≡ true
+  vulnerable-answered x y h =
+      let p = and_parts (given_by e.mine e.theirs e.verdict).vulnerable _ (subst (λ (m : Mark). gives_vulnerable x y m ≡ true) as_given h) in
+      let ends = and_parts (q.x == x) _ p.1 in
+      and_from _ _ p.0 (and_from _ _ (one-from_among e.firsts q.x x to_it.first ends.0) (one-from_among e.seconds q.y y to_it.second ends.1))
 
 module _ (t : Classed) (all : AnswersAll t) where
-  passes-by : (p : Mark → Bool) (q : Question) (e : ClassAnswer) → IsAnswerTo t.paths q e → p (mark_by q (can_meet e.verdict) (is_exposed e.verdict)) ≡ true → PassesIn p e
-  passes-by p q e to_it h = record { x = q.x; y = q.y; first = to_it.first; second = to_it.second; passes = subst (λ (m : Mark). p m ≡ true) (same_mark q e to_it.mine to_it.theirs) h }
-
-  some-from_static : (x y : ℕ) → StaticEdge t.paths x y → SomePasses (gives_edge x y) t.answers
+  some-from_static : (x y : ℕ) → StaticEdge t.paths x y → list_any (answer_edge x y) t.answers ≡ true
   some-from_static x y edge =
       let g = mark-from_edge Meets t.paths x y edge in
       let a = all.all g.question g.asked in
       let v = a.answer.verdict in
       let right = a.to_it.right g.asked.mine g.asked.theirs g.asked.asked in
       let meets = right-meets t.paths (numbers_of g.question) g.asked.mine g.asked.theirs v right g.holds in
-      record { answer = a.answer; told = a.told; inside = passes-by (gives_edge x y) g.question a.answer a.to_it (g.gives (can_meet v) (is_exposed v) meets) }
+      in_any (answer_edge x y) t.answers a.answer a.told (edge-answered t.paths g.question a.answer a.to_it x y (g.gives (can_meet v) (is_exposed v) meets))
 
-  some-from_vulnerable : (x y : ℕ) → IsVulnerable t.paths x y → SomePasses (gives_vulnerable x y) t.answers
+  some-from_vulnerable : (x y : ℕ) → IsVulnerable t.paths x y → list_any (answer_vulnerable x y) t.answers ≡ true
   some-from_vulnerable x y edge =
       let g = mark-from_vulnerable (IsExposed t.paths) t.paths x y edge in
       let a = all.all g.question g.asked in
       let v = a.answer.verdict in
       let right = a.to_it.right g.asked.mine g.asked.theirs g.asked.asked in
       let exposed = right-exposed t.paths (numbers_of g.question) g.asked.mine g.asked.theirs v right g.holds in
-      record { answer = a.answer; told = a.told; inside = passes-by (gives_vulnerable x y) g.question a.answer a.to_it (g.gives (can_meet v) (is_exposed v) exposed) }
+      in_any (answer_vulnerable x y) t.answers a.answer a.told (vulnerable-answered t.paths g.question a.answer a.to_it x y (g.gives (can_meet v) (is_exposed v) exposed))
 
   right-each : (e : ClassAnswer) → Contains t.answers e → IsRightOfEach t.paths e
   right-each e told = All-contains (λ e. IsRightOfEach t.paths e) t.answers e all.right told
 
   -- tables that give what the answers give have the edges of the paths
-  module _ (tables : EdgeTables) (give : GiveMarks tables (length t.paths) (marks_of t.answers)) where
+  module _ (tables : EdgeTables) (give : GiveAnswers tables (length t.paths) t.answers) where
     pub edges-told : IsTableOf tables.edges (length t.paths) (StaticEdge t.paths)
     edges-told = record {
       size_is = give.edges.size_is;
       joins = λ x y. (
-        λ j. let s = some-from_marks (gives_edge x y) t.answers (test-from_joined tables.edges _ _ give.edges x y j) in static-from_passes t.paths s.answer (right-each s.answer s.told) x y s.inside,
-        λ edge. let inside = EdgeOf-inside Meets t.paths x y edge in joined-from_test tables.edges _ _ give.edges x y inside.0 inside.1 (marks-from_some (gives_edge x y) t.answers (some-from_static x y edge)),
+        λ j. let s = any_in (answer_edge x y) t.answers (test-from_joined tables.edges _ _ give.edges x y j) in static-from_answer t.paths s.0 (right-each s.0 s.1) x y s.2,
+        λ edge. let inside = EdgeOf-inside Meets t.paths x y edge in joined-from_test tables.edges _ _ give.edges x y inside.0 inside.1 (some-from_static x y edge),
       );
     }
 
@@ -191,7 +155,7 @@ module _ (t : Classed) (all : AnswersAll t) where
     vulnerable-told = record {
       size_is = give.vulnerable.size_is;
       joins = λ x y. (
-        λ j. let s = some-from_marks (gives_vulnerable x y) t.answers (test-from_joined tables.vulnerable _ _ give.vulnerable x y j) in vulnerable-from_passes t.paths s.answer (right-each s.answer s.told) x y s.inside,
-        λ edge. let inside = HasQuestion-inside (IsExposed t.paths) t.paths (λ q. AsksReadWrite) x y edge in joined-from_test tables.vulnerable _ _ give.vulnerable x y inside.0 inside.1 (marks-from_some (gives_vulnerable x y) t.answers (some-from_vulnerable x y edge)),
+        λ j. let s = any_in (answer_vulnerable x y) t.answers (test-from_joined tables.vulnerable _ _ give.vulnerable x y j) in vulnerable-from_answer t.paths s.0 (right-each s.0 s.1) x y s.2,
+        λ edge. let inside = HasQuestion-inside (IsExposed t.paths) t.paths (λ q. AsksReadWrite) x y edge in joined-from_test tables.vulnerable _ _ give.vulnerable x y inside.0 inside.1 (some-from_vulnerable x y edge),
       );
     }

@@ -1,14 +1,15 @@
--- Marks that are entered into tables one after the other.
-use Rattle.std.proofs.Common.{◌≡◌, ℕ, List, [], ◌∷◌, ◌++◌, take, map, length, get_or, ◌<◌, ◌+◌, Bool, true, false, ◌||◌, refl, sym, ap, ◌∙◌, append-nil, arith}
-use Rattle.std.specs.List.{flat_map, list_any}
-use Rattle.std.proofs.lemmas.List.{take_more, map-append}
-use Rattle.std.proofs.lemmas.List.Concat.{flat_map-append}
+-- What is entered into tables one after the other.
+use Rattle.std.proofs.Common.{◌≡◌, ◌≢◌, ℕ, ◌<◌, ◌≤◌, ◌+◌, ◌⊎◌, inl, inr, List, [], ◌∷◌, take, length, get_or, Bool, true, false, ◌||◌, ◌&&◌, refl, sym, ap, subst, ◌∙◌, arith}
+use Rattle.std.specs.Prelude.{◌==◌}
+use Rattle.std.specs.List.{list_any}
+use Rattle.std.proofs.lemmas.Bool.Decides.{eqb_tells}
+use Rattle.std.proofs.lemmas.List.{take_more}
 use Rattle.std.proofs.lemmas.List.Folds.{list_any-append}
-use Rattle.order_facts.specs.Square.{Grid, entry, IsEmptySquare, IsSquareOf, Enters}
+use Rattle.order_facts.specs.Sets.{is_in, InsertsNode}
+use Rattle.order_facts.specs.Square.{Grid, entry, IsEmptySquare, IsSquareOf, Enters, JoinsSet}
 use Rattle.prog_paths.specs.declared.accesses.mark.EdgeTables.{EdgeTables}
-use Rattle.prog_paths.specs.declared.accesses.mark.Mark.{Mark}
-use Rattle.prog_paths.specs.Marks.{EntersMark, gives_edge, gives_vulnerable}
-use Rattle.dep_graph.specs.Marks.{EntersMarks}
+use Rattle.conflict_pairs.specs.Classed.{ClassAnswer}
+use Rattle.dep_graph.specs.Edges.{answer_edge, answer_vulnerable, is_one_of, EntersAnswer}
 
 or-nothing : (b : Bool) → (b || false) ≡ b
 or-nothing true = refl
@@ -18,86 +19,122 @@ or-regrouped : (a b c : Bool) → ((a || b) || c) ≡ (a || (b || c))
 or-regrouped true b c = refl
 or-regrouped false b c = refl
 
+and-shared : (a b c : Bool) → ((a && c) || (b && c)) ≡ ((a || b) && c)
+and-shared true true true = refl
+and-shared true true false = refl
+and-shared true false true = refl
+and-shared true false false = refl
+and-shared false true true = refl
+and-shared false true false = refl
+and-shared false false c = refl
+
+-- ---- one more of a list
+
+module _ {A : Type 0} (p : A → Bool) (xs : List A) (n : ℕ) (d : A) (inside : n < length xs) where
+  pub any-more : list_any p (take (n + 1) xs) ≡ (list_any p (take n xs) || p (get_or xs n d))
+  any-more =
+      ap (list_any p) (take_more xs n d inside)
+      ∙ list_any-append p (take n xs) (get_or xs n d ∷ [])
+      ∙ ap (λ (b : Bool). list_any p (take n xs) || b) (or-nothing (p (get_or xs n d)))
+
 -- ---- one table
 
-module _ (gives : ℕ → ℕ → Mark → Bool) where
-  -- some mark gives it
-  abbrev some : List Mark → ℕ → ℕ → Bool
-  some marks x y = list_any (gives x y) marks
+pub Enters-as : (old new : Grid) (t u : ℕ → ℕ → Bool) → ((i j : ℕ) → i < old.size → j < old.size → t i j ≡ u i j) → Enters old new t → Enters old new u
+Enters-as old new t u same e = record { size = e.size; entries = λ i j p q. e.entries i j p q ∙ ap (λ (b : Bool). entry old i j || b) (same i j p q) }
 
-  Enters-none : (grid : Grid) (marks : List Mark) → ((x y : ℕ) → some marks x y ≡ false) → Enters grid grid (some marks)
-  Enters-none grid marks none = record { size = refl; entries = λ i j p q. sym (ap (λ b. entry grid i j || b) (none i j) ∙ or-nothing (entry grid i j)) }
+pub Enters-nothing : (grid : Grid) (t : ℕ → ℕ → Bool) → ((i j : ℕ) → t i j ≡ false) → Enters grid grid t
+Enters-nothing grid t none = record { size = refl; entries = λ i j p q. sym (ap (λ (b : Bool). entry grid i j || b) (none i j) ∙ or-nothing (entry grid i j)) }
 
-  Enters-one : (old new : Grid) (m : Mark) → Enters old new (λ x y. gives x y m) → Enters old new (some (m ∷ []))
-  Enters-one old new m e = record { size = e.size; entries = λ i j p q. e.entries i j p q ∙ ap (λ b. entry old i j || b) (sym (or-nothing (gives i j m))) }
+pub Enters-then : (first old new : Grid) (t u : ℕ → ℕ → Bool) → Enters first old t → Enters old new u → Enters first new (λ i j. t i j || u i j)
+Enters-then first old new t u d e = record {
+  size = e.size ∙ d.size;
+  entries = λ i j p q.
+      e.entries i j (omega (arith, p, d.size)) (omega (arith, q, d.size))
+      ∙ ap (λ (b : Bool). b || u i j) (d.entries i j p q)
+      ∙ or-regrouped (entry first i j) (t i j) (u i j);
+}
 
-  Enters-appended : (first old new : Grid) (before more : List Mark) → Enters first old (some before) → Enters old new (some more) → Enters first new (some (before ++ more))
-  Enters-appended first old new before more d e = record {
-    size = e.size ∙ d.size;
-    entries = λ i j p q.
-        e.entries i j (omega (arith, p, d.size)) (omega (arith, q, d.size))
-        ∙ ap (λ b. b || some more i j) (d.entries i j p q)
-        ∙ or-regrouped (entry first i j) (some before i j) (some more i j)
-        ∙ ap (λ b. entry first i j || b) (sym (list_any-append (gives i j) before more));
-  }
+-- ---- rows and sets
 
-  IsSquareOf-begun : (grid : Grid) (nodes : ℕ) → IsEmptySquare grid nodes → IsSquareOf grid nodes (some [])
-  IsSquareOf-begun grid nodes e = record { size_is = e.size_is; entries = e.entries }
+-- a row joins the nodes of a set
+Enters-row : (old new : Grid) (row : ℕ) (members : List Bool) → JoinsSet old new row members → Enters old new (λ i j. row == i && is_in members j)
+Enters-row old new row members joins = record { size = joins.size; entries = λ i j p q. by i j p q (eqb_tells row i) }
+  where
+    by : (i j : ℕ) → i < old.size → j < old.size → (((row == i) ≡ true) × (row ≡ i)) ⊎ (((row == i) ≡ false) × (row ≢ i)) → entry new i j ≡ (entry old i j || (row == i && is_in members j))
+    by i j p q (inl e) =
+        subst (λ (n : ℕ). entry new n j ≡ (entry old n j || (row == i && is_in members j))) e.1
+        (joins.here j q ∙ ap (λ (b : Bool). entry old row j || (b && is_in members j)) (sym e.0))
+    by i j p q (inr d) =
+        joins.others i j p q (λ k. d.1 (sym k))
+        ∙ sym (ap (λ (b : Bool). entry old i j || (b && is_in members j)) d.0 ∙ or-nothing (entry old i j))
 
-  IsSquareOf-appended : (old new : Grid) (nodes : ℕ) (before more : List Mark) → IsSquareOf old nodes (some before) → Enters old new (some more) → IsSquareOf new nodes (some (before ++ more))
-  IsSquareOf-appended old new nodes before more d e = record {
-    size_is = e.size ∙ d.size_is;
-    entries = λ i j p q.
-        e.entries i j (omega (arith, p, d.size_is)) (omega (arith, q, d.size_is))
-        ∙ ap (λ b. b || some more i j) (d.entries i j p q)
-        ∙ sym (list_any-append (gives i j) before more);
-  }
+module _ (nodes : List ℕ) (n : ℕ) (inside : n < length nodes) where
+  node : ℕ
+  node = get_or nodes n 0
+
+  -- so one node more of some is joined to a set
+  pub Enters-row_more : (first old new : Grid) (members : List Bool) (row : ℕ) → row ≡ get_or nodes n 0 → Enters first old (λ x y. is_one_of (take n nodes) x && is_in members y) → JoinsSet old new row members → Enters first new (λ x y. is_one_of (take (n + 1) nodes) x && is_in members y)
+  Enters-row_more first old new members row is before joins =
+      Enters-as first new _ _
+      (λ i j p q.
+      and-shared (is_one_of (take n nodes) i) (row == i) (is_in members j)
+      ∙ ap (λ (b : Bool). b && is_in members j) (ap (λ (m : ℕ). is_one_of (take n nodes) i || m == i) is ∙ sym (any-more (λ m. m == i) nodes n 0 inside)))
+      (Enters-then first old new _ _ before (Enters-row old new row members joins))
+
+  -- a node beyond the table is none of it
+  beyond : (i : ℕ) → i < get_or nodes n 0 → is_one_of (take (n + 1) nodes) i ≡ is_one_of (take n nodes) i
+  beyond i l = any-more (λ m. m == i) nodes n 0 inside ∙ by (eqb_tells (get_or nodes n 0) i)
+    where
+      by : (((get_or nodes n 0 == i) ≡ true) × (get_or nodes n 0 ≡ i)) ⊎ (((get_or nodes n 0 == i) ≡ false) × (get_or nodes n 0 ≢ i)) → (is_one_of (take n nodes) i || get_or nodes n 0 == i) ≡ is_one_of (take n nodes) i
+      by (inl e) = let k = e.1 in absurd (omega (arith, l, k))
+      by (inr d) = ap (λ (b : Bool). is_one_of (take n nodes) i || b) d.0 ∙ or-nothing (is_one_of (take n nodes) i)
+
+  pub Enters-row_beyond : (first old : Grid) (members : List Bool) → (old.size ≡ first.size) → old.size ≤ get_or nodes n 0 → Enters first old (λ x y. is_one_of (take n nodes) x && is_in members y) → Enters first old (λ x y. is_one_of (take (n + 1) nodes) x && is_in members y)
+  Enters-row_beyond first old members same out before =
+      Enters-as first old _ _ (λ i j p q. ap (λ (b : Bool). b && is_in members j) (sym (beyond i (omega (arith, p, same, out))))) before
+
+  -- one node more is in a set
+  pub in-more : (old new : List Bool) (size row m : ℕ) → row ≡ get_or nodes n 0 → length old ≡ size → InsertsNode old new row → m < size → is_in old m ≡ is_one_of (take n nodes) m → is_in new m ≡ is_one_of (take (n + 1) nodes) m
+  in-more old new size row m is same inserts p before = by (eqb_tells row m) ∙ ap (λ (k : ℕ). is_one_of (take n nodes) m || k == m) is ∙ sym (any-more (λ k. k == m) nodes n 0 inside)
+    where
+      by : (((row == m) ≡ true) × (row ≡ m)) ⊎ (((row == m) ≡ false) × (row ≢ m)) → is_in new m ≡ (is_one_of (take n nodes) m || row == m)
+      by (inl e) = subst (λ (k : ℕ). is_in new k ≡ true) e.1 inserts.here ∙ sym (true-behind (is_one_of (take n nodes) m) (row == m) e.0)
+        where
+          true-behind : (a b : Bool) → b ≡ true → (a || b) ≡ true
+          true-behind true b h = refl
+          true-behind false b h = h
+      by (inr d) =
+          inserts.others m (omega (arith, p, same)) (λ k. d.1 (sym k)) ∙ before
+          ∙ sym (ap (λ (b : Bool). is_one_of (take n nodes) m || b) d.0 ∙ or-nothing (is_one_of (take n nodes) m))
+
+  pub in-beyond : (set : List Bool) (size m : ℕ) → size ≤ get_or nodes n 0 → m < size → is_in set m ≡ is_one_of (take n nodes) m → is_in set m ≡ is_one_of (take (n + 1) nodes) m
+  in-beyond set size m out p before = before ∙ sym (beyond m (omega (arith, out, p)))
 
 -- ---- both tables
 
-pub EntersMarks-none : (tables : EdgeTables) (marks : List Mark) → ((x y : ℕ) → list_any (gives_edge x y) marks ≡ false) → ((x y : ℕ) → list_any (gives_vulnerable x y) marks ≡ false) → EntersMarks tables tables marks
-EntersMarks-none tables marks edges vulnerable = record { edges = Enters-none gives_edge tables.edges marks edges; vulnerable = Enters-none gives_vulnerable tables.vulnerable marks vulnerable }
+-- the tables give just what some answers give
+pub record GiveAnswers (tables : EdgeTables) (nodes : ℕ) (answers : List ClassAnswer) : Type 0 where
+  pub edges : IsSquareOf tables.edges nodes (λ x y. list_any (answer_edge x y) answers)
+  pub vulnerable : IsSquareOf tables.vulnerable nodes (λ x y. list_any (answer_vulnerable x y) answers)
 
-EntersMarks-one : (old new : EdgeTables) (m : Mark) → EntersMark old new m → EntersMarks old new (m ∷ [])
-EntersMarks-one old new m e = record { edges = Enters-one gives_edge old.edges new.edges m e.edges; vulnerable = Enters-one gives_vulnerable old.vulnerable new.vulnerable m e.vulnerable }
-
-EntersMarks-appended : (first old new : EdgeTables) (before more : List Mark) → EntersMarks first old before → EntersMarks old new more → EntersMarks first new (before ++ more)
-EntersMarks-appended first old new before more d e = record {
-  edges = Enters-appended gives_edge first.edges old.edges new.edges before more d.edges e.edges;
-  vulnerable = Enters-appended gives_vulnerable first.vulnerable old.vulnerable new.vulnerable before more d.vulnerable e.vulnerable;
+pub GiveAnswers-begun : (tables : EdgeTables) (nodes : ℕ) → IsEmptySquare tables.edges nodes → IsEmptySquare tables.vulnerable nodes → GiveAnswers tables nodes []
+GiveAnswers-begun tables nodes edges vulnerable = record {
+  edges = record { size_is = edges.size_is; entries = edges.entries };
+  vulnerable = record { size_is = vulnerable.size_is; entries = vulnerable.entries };
 }
 
--- the tables give just what some marks give
-pub record GiveMarks (tables : EdgeTables) (nodes : ℕ) (marks : List Mark) : Type 0 where
-  pub edges : IsSquareOf tables.edges nodes (λ x y. list_any (gives_edge x y) marks)
-  pub vulnerable : IsSquareOf tables.vulnerable nodes (λ x y. list_any (gives_vulnerable x y) marks)
+module _ (answers : List ClassAnswer) (n : ℕ) (e : ClassAnswer) (inside : n < length answers) where
+  one-more : (old new : Grid) (nodes : ℕ) (gives : ℕ → ℕ → ClassAnswer → Bool) → IsSquareOf old nodes (λ x y. list_any (gives x y) (take n answers)) → Enters old new (λ x y. gives x y (get_or answers n e)) → IsSquareOf new nodes (λ x y. list_any (gives x y) (take (n + 1) answers))
+  one-more old new nodes gives d enters = record {
+    size_is = enters.size ∙ d.size_is;
+    entries = λ i j p q.
+        enters.entries i j (omega (arith, p, d.size_is)) (omega (arith, q, d.size_is))
+        ∙ ap (λ (b : Bool). b || gives i j (get_or answers n e)) (d.entries i j p q)
+        ∙ sym (any-more (gives i j) answers n e inside);
+  }
 
-pub GiveMarks-begun : (tables : EdgeTables) (nodes : ℕ) → IsEmptySquare tables.edges nodes → IsEmptySquare tables.vulnerable nodes → GiveMarks tables nodes []
-GiveMarks-begun tables nodes edges vulnerable = record { edges = IsSquareOf-begun gives_edge tables.edges nodes edges; vulnerable = IsSquareOf-begun gives_vulnerable tables.vulnerable nodes vulnerable }
-
-GiveMarks-appended : (old new : EdgeTables) (nodes : ℕ) (before more : List Mark) → GiveMarks old nodes before → EntersMarks old new more → GiveMarks new nodes (before ++ more)
-GiveMarks-appended old new nodes before more d e = record {
-  edges = IsSquareOf-appended gives_edge old.edges new.edges nodes before more d.edges e.edges;
-  vulnerable = IsSquareOf-appended gives_vulnerable old.vulnerable new.vulnerable nodes before more d.vulnerable e.vulnerable;
-}
-
--- ---- the marks of one more of a list
-
-module _ {A : Type 0} (xs : List A) (n : ℕ) (d : A) (inside : n < length xs) where
-  mapped-more : (f : A → Mark) → map f (take (n + 1) xs) ≡ map f (take n xs) ++ (f (get_or xs n d) ∷ [])
-  mapped-more f = ap (map f) (take_more xs n d inside) ∙ map-append f (take n xs) (get_or xs n d ∷ [])
-
-  flat-more : (f : A → List Mark) → flat_map f (take (n + 1) xs) ≡ flat_map f (take n xs) ++ f (get_or xs n d)
-  flat-more f =
-      ap (flat_map f) (take_more xs n d inside)
-      ∙ flat_map-append f (take n xs) (get_or xs n d ∷ [])
-      ∙ ap (λ (ms : List Mark). flat_map f (take n xs) ++ ms) (append-nil (f (get_or xs n d)))
-
-  pub EntersMarks-mapped : (f : A → Mark) (first old new : EdgeTables) → EntersMarks first old (map f (take n xs)) → EntersMark old new (f (get_or xs n d)) → EntersMarks first new (map f (take (n + 1) xs))
-  EntersMarks-mapped f first old new before e = rw (mapped-more f) (EntersMarks-appended first old new _ _ before (EntersMarks-one old new _ e))
-
-  pub EntersMarks-flat : (f : A → List Mark) (first old new : EdgeTables) → EntersMarks first old (flat_map f (take n xs)) → EntersMarks old new (f (get_or xs n d)) → EntersMarks first new (flat_map f (take (n + 1) xs))
-  EntersMarks-flat f first old new before e = rw (flat-more f) (EntersMarks-appended first old new _ _ before e)
-
-  pub GiveMarks-flat : (f : A → List Mark) (nodes : ℕ) (old new : EdgeTables) → GiveMarks old nodes (flat_map f (take n xs)) → EntersMarks old new (f (get_or xs n d)) → GiveMarks new nodes (flat_map f (take (n + 1) xs))
-  GiveMarks-flat f nodes old new before e = rw (flat-more f) (GiveMarks-appended old new nodes _ _ before e)
+  pub GiveAnswers-more : (old new : EdgeTables) (nodes : ℕ) → GiveAnswers old nodes (take n answers) → EntersAnswer old new (get_or answers n e) → GiveAnswers new nodes (take (n + 1) answers)
+  GiveAnswers-more old new nodes d enters = record {
+    edges = one-more old.edges new.edges nodes answer_edge d.edges enters.edges;
+    vulnerable = one-more old.vulnerable new.vulnerable nodes answer_vulnerable d.vulnerable enters.vulnerable;
+  }

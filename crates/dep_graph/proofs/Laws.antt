@@ -9,7 +9,7 @@ use Rattle.dep_graph.specs.declared.danger.Danger.{Danger}
 use Rattle.dep_graph.specs.Counting.{IsCountOf}
 use Rattle.dep_graph.specs.Triple.{ClosesAt, IsLeastTriple}
 use Rattle.dep_graph.specs.Ways.{IsLeastWay}
-use Rattle.dep_graph.specs.Marks.{IsTableOf, IsGraphOf}
+use Rattle.dep_graph.specs.Edges.{IsTableOf, IsGraphOf}
 use Rattle.dep_graph.specs.Danger.{IsLeastExposed, IsLeastDanger}
 use Rattle.dep_graph.proofs.Counts.{IsCountOf-same}
 use Rattle.dep_graph.proofs.Alike.{IsWithin, Leads-within, IsLeastWay-alike}

@@ -1,12 +1,12 @@
--- What the answers to the questions of a list of paths give, and the graph of the paths.
-use Rattle.std.specs.Prelude.{◌≡◌, ◌↔◌, ℕ, List, length, map, All}
-use Rattle.std.specs.List.{flat_map, list_any}
+-- The edges that the answers to the questions of a list of paths give, and the graph of the paths.
+use Rattle.std.specs.Prelude.{◌≡◌, ◌↔◌, ℕ, Bool, ◌&&◌, ◌||◌, ◌==◌, List, length, All}
+use Rattle.std.specs.List.{list_any}
 use Rattle.order_facts.specs.Square.{Grid, Joins, Enters}
 use Rattle.prog_check.specs.declared.path.Kind.{Kind}
 use Rattle.prog_check.specs.declared.path.Path.{Path}
 use Rattle.prog_paths.specs.declared.accesses.mark.EdgeTables.{EdgeTables}
 use Rattle.prog_paths.specs.declared.accesses.mark.Mark.{Mark}
-use Rattle.prog_paths.specs.Marks.{mark_by, gives_edge, gives_vulnerable}
+use Rattle.prog_paths.specs.Marks.{mark_by}
 use Rattle.prog_paths.specs.Questions.{ChangesSingleCells}
 use Rattle.prog_paths.specs.StaticGraph.{StaticEdge, IsVulnerable}
 use Rattle.conflict_pairs.specs.declared.verdicts.Verdict.{Verdict}
@@ -22,27 +22,33 @@ given_by mine theirs verdict =
     mark_by (record { x = 0; a = 0; y = 0; b = 0; mine = mine; theirs = theirs })
     (can_meet verdict) (is_exposed verdict)
 
--- the same from the node x to the node y
-abbrev pub mark_between : Mark → (x y : ℕ) → Mark
-mark_between given x y =
-    record { x = x; y = y; forward = given.forward; backward = given.backward; vulnerable = given.vulnerable }
+-- a node is one of some
+abbrev pub is_one_of : List ℕ → ℕ → Bool
+is_one_of nodes node = list_any (λ n. n == node) nodes
 
--- the same from the node x to each of some nodes
-abbrev pub row_marks : Mark → ℕ → List ℕ → List Mark
-row_marks given x ys = map (λ y. mark_between given x y) ys
+-- a node is one of some, and another one of others
+abbrev pub are_of : (firsts seconds : List ℕ) → (x y : ℕ) → Bool
+are_of firsts seconds x y = is_one_of firsts x && is_one_of seconds y
 
--- what an answer gives, from each of its first nodes to each of its second ones
-abbrev pub answer_marks : ClassAnswer → List Mark
-answer_marks e = flat_map (λ x. row_marks (given_by e.mine e.theirs e.verdict) x e.seconds) e.firsts
+-- an answer gives an edge from x to y: from its first nodes to its second ones, or back
+abbrev pub answer_edge : (x y : ℕ) → ClassAnswer → Bool
+answer_edge x y e =
+    ((given_by e.mine e.theirs e.verdict).forward && are_of e.firsts e.seconds x y)
+    || ((given_by e.mine e.theirs e.verdict).backward && are_of e.seconds e.firsts x y)
 
--- what each answer gives
-abbrev pub marks_of : List ClassAnswer → List Mark
-marks_of answers = flat_map (λ e. answer_marks e) answers
+-- an answer gives a vulnerable edge from x to y
+abbrev pub answer_vulnerable : (x y : ℕ) → ClassAnswer → Bool
+answer_vulnerable x y e = (given_by e.mine e.theirs e.verdict).vulnerable && are_of e.firsts e.seconds x y
 
--- what these marks give is entered into both tables
-pub record EntersMarks (old new : EdgeTables) (marks : List Mark) : Type 0 where
-  pub edges : Enters old.edges new.edges (λ x y. list_any (gives_edge x y) marks)
-  pub vulnerable : Enters old.vulnerable new.vulnerable (λ x y. list_any (gives_vulnerable x y) marks)
+-- what an answer gives is entered into both tables
+pub record EntersAnswer (old new : EdgeTables) (e : ClassAnswer) : Type 0 where
+  pub edges : Enters old.edges new.edges (λ x y. answer_edge x y e)
+  pub vulnerable : Enters old.vulnerable new.vulnerable (λ x y. answer_vulnerable x y e)
+
+-- both tables have so many nodes
+pub record HaveNodes (tables : EdgeTables) (nodes : ℕ) : Type 0 where
+  pub edges : tables.edges.size ≡ nodes
+  pub vulnerable : tables.vulnerable.size ≡ nodes
 
 -- ---- the graph
 

@@ -3,5 +3,5 @@ pub mod Counting
 pub mod Reaching
 pub mod Distances
 pub mod Triple
-pub mod Marks
+pub mod Edges
 pub mod Danger

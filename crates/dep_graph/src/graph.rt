@@ -1,22 +1,20 @@
 //! The static graph of a list of paths.
 
 ghost use Rattle.std.specs.Prelude.{◌≡◌, ◌↔◌, length, ◌<◌, ◌≤◌, true, IfOk, IfSome, IfNone, IsTrue};
-ghost use Rattle.std.specs.Prelude.{Some, slice_get};
 ghost use Rattle.prog_paths.specs.StaticGraph.{StaticEdge, IsVulnerable, Leads, IsDangerous};
-ghost use Rattle.conflict_pairs.specs.Classed.{ClassAnswer};
 ghost use Rattle.dep_graph.specs.Counting.{IsCountOf};
 ghost use Rattle.order_facts.specs.Square.{entry};
-ghost use Rattle.dep_graph.specs.Marks.{given_by, row_marks, answer_marks, EntersMarks, IsTableOf};
 ghost use Rattle.dep_graph.specs.Danger.{IsLeastDanger};
 
 use crate::closure::close;
 use crate::danger::{Danger, first_exposure};
+use crate::edges::edges_of;
 use crate::least_way::least_way;
 use crate::triple::least_triple;
-use conflict_pairs::{ClassTable, PairTable, Question, Verdict};
+use conflict_pairs::{ClassTable, PairTable};
 use order_facts::Square;
-use prog_check::{Kind, Path};
-use prog_paths::{EdgeTables, Mark, mark_by};
+use prog_check::Path;
+use prog_paths::EdgeTables;
 use prog_tree::Sequence;
 use std::alloc::{AllocError, Global};
 use std::marker::Model;
@@ -33,71 +31,13 @@ pub struct Graph<'a> {
 impl<'a> Model for Graph<'a> {
     ghost use Rattle.std.specs.Prelude.{List};
     ghost use Rattle.prog_check.specs.declared.path.Path.{Path};
-    ghost use Rattle.dep_graph.specs.Marks.{IsGraphOf};
+    ghost use Rattle.dep_graph.specs.Edges.{IsGraphOf};
 
     ghost Value = { List Path };
 
     ghost view = { λ g. g.paths.now };
 
     ghost invariant = { λ g. IsGraphOf g.paths.now g.edges g.vulnerable g.reach };
-}
-
-/// Enters what accesses of the node `x` give with those of each of some nodes.
-fn enter_row(tables: &mut EdgeTables, x: usize, ys: &[usize], given: Mark)
-    ensures { EntersMarks tables.old tables.new (row_marks given x ys.now) }
-{
-    for y in ys {
-        tables.enter(Mark { x, y: *y, ..given });
-    }
-}
-
-/// What two accesses of these kinds give, at whatever nodes.
-fn given_by(mine: Kind, theirs: Kind, verdict: &Verdict) -> Mark
-    ensures { result ≡ given_by mine theirs verdict.now }
-{
-    let question = Question {
-        x: 0,
-        a: 0,
-        y: 0,
-        b: 0,
-        mine,
-        theirs,
-    };
-    mark_by(question, verdict.can_meet(), verdict.is_exposed())
-}
-
-/// Enters what the pair of classes of a number gives: the same for each node of the first and each
-/// of the second. Accesses that never meet give nothing.
-fn enter_answer(tables: &mut EdgeTables, table: &ClassTable<'_>, n: usize)
-    requires { n < length table.now.answers }
-    ensures { (e : ClassAnswer) → slice_get table.now.answers n ≡ Some e
-        → EntersMarks tables.old tables.new (answer_marks e) }
-{
-    let verdict = table.verdict(n);
-    if !verdict.can_meet() {
-        return;
-    }
-    let (mine, theirs) = table.kinds(n);
-    let given = given_by(mine, theirs, verdict);
-    let firsts = table.first_nodes(n);
-    let seconds = table.second_nodes(n);
-    for x in firsts {
-        enter_row(tables, *x, seconds, given);
-    }
-}
-
-/// The edges that the answers to all questions give.
-fn edges_of(alloc: Global, table: &ClassTable<'_>) -> Result<EdgeTables, AllocError>
-    ensures edges { IfOk result (λ e. IsTableOf e.edges (length table.now.paths)
-        (StaticEdge table.now.paths)) }
-    ensures vulnerable { IfOk result (λ e. IsTableOf e.vulnerable (length table.now.paths)
-        (IsVulnerable table.now.paths)) }
-{
-    let mut tables = EdgeTables::new(alloc, table.paths().len())?;
-    for n in 0..table.len() {
-        enter_answer(&mut tables, table, n);
-    }
-    Ok(tables)
 }
 
 /// How many nodes are joined to the node.

@@ -5,6 +5,7 @@
 mod closure;
 mod danger;
 mod distances;
+mod edges;
 mod graph;
 mod least_way;
 mod triple;
