@@ -92,6 +92,7 @@ fn entries_of<'t>(told: &'t [Told], each: usize, slate: usize) -> &'t [Told]
 impl Slates {
     /// So many slates, each with room for so many entries, and for so many bytes.
     pub fn of(alloc: Global, count: usize, each: usize, bytes: usize) -> Result<Self, AllocError>
+        ensures count { IfOk result (λ slates. length slates.all.items ≡ count) }
         ensures given { IfOk result (λ slates. slates.given ≡ length slates.all.items) }
         ensures each { IfOk result (λ slates. slates.each ≡ each) }
         ensures wide { IfOk result (λ slates. All (IsWide bytes) slates.all.items) }
