@@ -1,14 +1,12 @@
 -- Texts of the next entries on slates: there is room for them, and one behind the other they are what was to be written.
-use Rattle.std.proofs.Common.{◌≡◌, ◌⊎◌, inl, inr, ◌<◌, ◌≤◌, ◌+◌, ◌-◌, ◌*◌, ◌∷◌, [], ◌++◌, ℕ, List, length, drop, get_or, string_bytes, codes, sym, ap, ◌∙◌, append_assoc, arith, suc}
+use Rattle.std.proofs.Common.{◌≡◌, ◌⊎◌, inl, inr, ◌<◌, ◌≤◌, ◌+◌, ◌*◌, ◌∷◌, [], ◌++◌, ℕ, List, length, take, drop, get_or, set, string_bytes, codes, refl, sym, ap, ◌∙◌, append_assoc, arith, zero, suc}
 use Rattle.std.proofs.Math.Nat.{suc-mul}
 use Rattle.std.proofs.lemmas.Bool.{cases_lt}
 use Rattle.std.proofs.lemmas.Nat.{mul-le}
-use Rattle.std.proofs.lemmas.List.{at_drop_more, drop_all, drop-drop, length-take, map-append, take-append-drop}
-use Rattle.std.proofs.lemmas.List.Elements.{All-head, All-tail, All-take, All-drop}
+use Rattle.std.proofs.lemmas.List.{at_drop_more, drop_all, map-append, take_more, take_more_set}
+use Rattle.std.proofs.lemmas.List.Elements.{All-head, All-weaker}
 use Rattle.std.proofs.lemmas.Grind.{flat_map-append}
 use Rattle.std.specs.Prelude.{All}
-use Rattle.std.specs.Fork.{slice_chunk}
-use Rattle.std.specs.declared.alloc.Global.{Global}
 use Rattle.robust_cert.specs.declared.entries.Reason.{Reason}
 use Rattle.robust_cert.specs.declared.entries.Reason.TheVariants.{Apart}
 use Rattle.robust_cert.specs.declared.entries.Told.{Told}
@@ -19,37 +17,46 @@ use Rattle.robust_cert.specs.Parts.{tail_text, HasRoomFor}
 use Rattle.robust_cert.specs.Pieces.{next_entries_text, entries_room}
 use Rattle.robust_cert.specs.Sharing.{Entry, reason_at, entry_told, entries_told, HasReason}
 use Rattle.robust_cert.specs.declared.text.slates.Slates.{Slates}
-use Rattle.robust_cert.specs.Slates.{slates_left, slates_text}
+use Rattle.robust_cert.specs.Slates.{slates_entries, slates_left, slates_text}
 
 -- once more is one time more
 more-times : (n m : ℕ) → (n + 1) * m ≡ n * m + m
 more-times n m = let one : n + 1 ≡ suc n = omega arith in ap (λ (k : ℕ). k * m) one ∙ suc-mul n m
 
+-- stands for an entry where there is none
+abbrev pub no_told : Told
+no_told = record { question = record { x = 0; a = 0; y = 0; b = 0 }; reason = 0 }
+
 module _ (rs : List Reason) where
   -- ---- room
-
-  -- entries that stand in a certificate take no more room than so many of the greatest
-  pub entries_within : (room : ℕ) (ts : List Told) → All (HasRoomFor room) rs → All (HasReason rs) ts → entries_room rs ts ≤ length ts * room
-  entries_within room [] short within = omega arith
-  entries_within room (t ∷ ts) short within =
-      let first : length (tail_text (reason_at rs t.reason)) + 64 ≤ room = short t.reason (Apart []) (All-head (HasReason rs) t ts within) in
-      let rest = entries_within room ts short (All-tail (HasReason rs) t ts within) in
-      let product : length (t ∷ ts) * room ≡ length ts * room + room = suc-mul (length ts) room in
-      omega (arith, first, rest, product)
-
-  -- the entries of one slate have room on it
-  pub chunk_room : (room each n bytes : ℕ) (ts : List Told) → All (HasRoomFor room) rs → All (HasReason rs) ts → each * room ≤ bytes → entries_room rs (slice_chunk ts each n) ≤ bytes
-  chunk_room room each n bytes ts short within fits =
-      let chunk = slice_chunk ts each n in
-      let own = entries_within room chunk short (All-take (HasReason rs) each (drop (n * each) ts) (All-drop (HasReason rs) (n * each) ts within)) in
-      let long = length-take each (drop (n * each) ts) in
-      let few : length chunk ≤ each = omega (arith, long) in
-      let product = mul-le (length chunk) room each room few (omega arith) in
-      omega (arith, own, product, fits)
 
   -- one entry more takes its room
   pub room_more : (ts : List Told) (i : ℕ) (d : Told) → i < length ts → entries_room rs (drop i ts) ≡ (length (tail_text (reason_at rs (get_or ts i d).reason)) + 64) + entries_room rs (drop (i + 1) ts)
   room_more ts i d lt = at_drop_more (entries_room rs) ts i d lt
+
+  -- and so it does behind others
+  room-append : (xs ys : List Told) → entries_room rs (xs ++ ys) ≡ entries_room rs xs + entries_room rs ys
+  room-append [] ys = omega arith
+  room-append (t ∷ ts) ys = omega (arith, room-append ts ys)
+
+  pub room_taken : (ts : List Told) (i : ℕ) (d : Told) → i < length ts → entries_room rs (take (i + 1) ts) ≡ entries_room rs (take i ts) + (length (tail_text (reason_at rs (get_or ts i d).reason)) + 64)
+  room_taken ts i d lt = omega (arith, ap (entries_room rs) (take_more ts i d lt), room-append (take i ts) (get_or ts i d ∷ []))
+
+  -- where there is room for the text of any reason, there is in a wider text
+  pub wider_room : (room wide : ℕ) → room ≤ wide → All (HasRoomFor room) rs → All (HasRoomFor wide) rs
+  wider_room room wide le all =
+      All-weaker (HasRoomFor room) (HasRoomFor wide) (λ (r : Reason) (h : HasRoomFor room r). omega (arith, h, le)) rs all
+
+  -- one entry at least fits
+  pub one_fits : (ts : List Told) (count bytes : ℕ) → All (HasReason rs) ts → All (HasRoomFor bytes) rs → (count < length ts → bytes < entries_room rs (take (count + 1) ts)) → 0 < length ts → 0 < count
+  one_fits [] count bytes within short full some = absurd (omega (arith, some))
+  one_fits (t ∷ ts) zero bytes within short full some =
+      let first : length (tail_text (reason_at rs t.reason)) + 64 ≤ bytes = short t.reason (Apart []) (All-head (HasReason rs) t ts within) in
+      let over : bytes < entries_room rs (take (0 + 1) (t ∷ ts)) = full (omega arith) in
+      let number : 0 + 1 ≡ suc zero = omega arith in
+      let one = ap (λ (n : ℕ). entries_room rs (take n (t ∷ ts))) number in
+      absurd (omega (arith, first, over, one))
+  one_fits (t ∷ ts) (suc count) bytes within short full some = omega arith
 
   -- ---- texts
 
@@ -61,53 +68,66 @@ module _ (rs : List Reason) where
       ap next_entries_text (map-append (entry_told rs) xs ys)
       ∙ flat_map-append (λ e. codes "," ++ compact_text (entry_data e)) (entries_told rs xs) (entries_told rs ys)
 
-  -- the entries of one slate, and those behind them
-  chunk_behind : (ts : List Told) (each n : ℕ) → slice_chunk ts each n ++ drop ((n + 1) * each) ts ≡ drop (n * each) ts
-  chunk_behind ts each n =
-      let product = more-times n each in
-      ap (λ (m : ℕ). slice_chunk ts each n ++ drop m ts) product
-      ∙ ap (λ (l : List Told). slice_chunk ts each n ++ l) (sym (drop-drop each (n * each) ts))
-      ∙ take-append-drop each (drop (n * each) ts)
+  -- slates have the texts of the entries that others were to have
+  abbrev pub AreWritten : List Slate → List Slate → Type 0
+  AreWritten before after = (k : ℕ) (d : Slate) → k < length after → string_bytes (get_or after k d).text ≡ next (get_or before k d).entries.now
 
-  -- slates from one of a number on have the texts of their entries
-  abbrev pub AreWritten : List Told → ℕ → ℕ → List Slate → Type 0
-  AreWritten ts each n slates = (k : ℕ) (d : Slate) → k < length slates → string_bytes (get_or slates k d).text ≡ next (slice_chunk ts each (n + k))
-
-  pub written_from : (ts : List Told) (each n : ℕ) (slates : List Slate) → AreWritten ts each n slates → slates_text slates ++ next (drop ((n + length slates) * each) ts) ≡ next (drop (n * each) ts)
-  written_from ts each n [] h = ap (λ (m : ℕ). next (drop (m * each) ts)) (omega arith)
-  written_from ts each n (s ∷ ss) h =
-      let later : AreWritten ts each (n + 1) ss =
-      λ k d lt. h (suc k) d (omega (arith, lt)) ∙ ap (λ (m : ℕ). next (slice_chunk ts each m)) (omega arith) in
-      let count : n + length (s ∷ ss) ≡ (n + 1) + length ss = omega arith in
-      ap (λ (m : ℕ). slates_text (s ∷ ss) ++ next (drop (m * each) ts)) count
-      ∙ append_assoc (string_bytes s.text) (slates_text ss) (next (drop (((n + 1) + length ss) * each) ts))
-      ∙ ap (λ (l : List ℕ). string_bytes s.text ++ l) (written_from ts each (n + 1) ss later)
-      ∙ ap (λ (l : List ℕ). l ++ next (drop ((n + 1) * each) ts)) (h 0 s (omega arith) ∙ ap (λ (m : ℕ). next (slice_chunk ts each m)) (omega arith))
-      ∙ sym (next-append (slice_chunk ts each n) (drop ((n + 1) * each) ts))
-      ∙ ap next (chunk_behind ts each n)
-
-  pub all_written : (ts : List Told) (each : ℕ) (slates : List Slate) → AreWritten ts each 0 slates → slates_text slates ++ next (drop (length slates * each) ts) ≡ next ts
-  all_written ts each slates h =
-      let start : 0 * each ≡ 0 = omega arith in
-      ap (λ (m : ℕ). slates_text slates ++ next (drop (m * each) ts)) (omega arith) ∙ written_from ts each 0 slates h
-      ∙ ap (λ (m : ℕ). next (drop m ts)) start
+  pub all_written : (before after : List Slate) → length before ≡ length after → AreWritten before after → slates_text after ≡ next (slates_entries before)
+  all_written [] [] same h = refl
+  all_written [] (s ∷ ss) same h = absurd (omega (arith, same))
+  all_written (b ∷ bs) [] same h = absurd (omega (arith, same))
+  all_written (b ∷ bs) (s ∷ ss) same h =
+      let later : AreWritten bs ss = λ k d lt. h (suc k) d (omega (arith, lt)) in
+      ap (λ (l : List ℕ). string_bytes s.text ++ l) (all_written bs ss (omega (arith, same)) later)
+      ∙ ap (λ (l : List ℕ). l ++ next (slates_entries bs)) (h 0 s (omega arith))
+      ∙ sym (next-append b.entries.now (slates_entries bs))
 
 -- ---- one after the other
+
+-- one slate more takes its entries from those that were left
+pub one_more : (slates : List Slate) (n : ℕ) (s : Slate) (told left behind : List Told) → n < length slates → slates_entries (take n slates) ++ left ≡ told → s.entries.now ++ behind ≡ left
+    → slates_entries (take (n + 1) (set slates n s)) ++ behind ≡ told
+one_more slates n s told left behind lt all own =
+    ap (λ (l : List Slate). slates_entries l ++ behind) (take_more_set slates n s lt)
+    ∙ ap (λ (l : List Told). l ++ behind) (flat_map-append (λ (t : Slate). t.entries.now) (take n slates) (s ∷ []))
+    ∙ append_assoc (slates_entries (take n slates)) (s.entries.now ++ []) behind
+    ∙ ap (λ (l : List Told). slates_entries (take n slates) ++ l) (append_assoc s.entries.now [] behind ∙ own)
+    ∙ all
 
 -- nothing is left of slates that are all given
 pub none_left : (slates : Slates) → (slates.given < length slates.all.items → ⊥) → slates_left slates ≡ []
 none_left slates past = drop_all slates.given slates.all.items (omega (arith, past))
 
--- a round takes as many slates from the entries that are left, and at least one entry where it takes a slate
-pub fewer_left : (slates each left rest : ℕ) → 0 < each → 0 < left → rest ≡ left - slates * each → slates + rest * (slates + 1) ≤ left * (slates + 1)
-fewer_left slates each left rest some more is = by (cases_lt 0 slates)
+-- where one is taken from those that are left, if there is one, fewer stand behind it than there were
+pub fewer_behind : (told left behind : ℕ) → 0 < told → left ≤ told → behind ≤ left → (0 < left → behind < left) → behind < told
+fewer_behind told left behind some most no_more one = by (cases_lt 0 left)
+  where
+    by : (0 < left) ⊎ (left ≤ 0) → behind < told
+    by (inl more) = omega (arith, one more, most)
+    by (inr none) = omega (arith, none, some, no_more)
+
+-- one less is so many less
+pub times_less : (n rest left : ℕ) → rest < left → rest * (n + 1) + (n + 1) ≤ left * (n + 1)
+times_less n rest left less =
+    let product : (rest + 1) * (n + 1) ≡ rest * (n + 1) + (n + 1) = more-times rest (n + 1) in
+    omega (arith, mul-le (rest + 1) (n + 1) left (n + 1) (omega (arith, less)) (omega arith), product)
+
+-- a round takes at least one entry where it takes a slate
+pub fewer_left : (slates left rest : ℕ) → (0 < slates → rest < left) → rest ≤ left → slates + rest * (slates + 1) ≤ left * (slates + 1)
+fewer_left slates left rest one most = by (cases_lt 0 slates)
   where
     by : (0 < slates) ⊎ (slates ≤ 0) → slates + rest * (slates + 1) ≤ left * (slates + 1)
-    by (inl one) =
-        let taken = mul-le 1 each slates each one (omega arith) in
-        let whole = mul-le (rest + 1) (slates + 1) left (slates + 1) (omega (arith, is, taken, some, more)) (omega arith) in
-        let product : (rest + 1) * (slates + 1) ≡ rest * (slates + 1) + (slates + 1) = more-times rest (slates + 1) in
-        omega (arith, whole, product)
+    by (inl some) = omega (arith, times_less slates rest left (one some))
     by (inr none) =
-        let product = mul-le rest (slates + 1) left (slates + 1) (omega (arith, is)) (omega arith) in
+        let product = mul-le rest (slates + 1) left (slates + 1) most (omega arith) in
         omega (arith, product, none)
+
+-- and leaves a slate that is to be given, or all entries
+pub some_left : (slates left rest : ℕ) → 0 < left → (slates ≡ 0 → rest ≡ left) → 0 < slates + rest * (slates + 1)
+some_left slates left rest some all = by (cases_lt 0 slates)
+  where
+    by : (0 < slates) ⊎ (slates ≤ 0) → 0 < slates + rest * (slates + 1)
+    by (inl one) = omega (arith, one)
+    by (inr none) =
+        let product = mul-le 1 1 rest (slates + 1) (omega (arith, some, all (omega (arith, none)))) (omega arith) in
+        omega (arith, product)

@@ -1,7 +1,7 @@
 //! The texts of entries behind another one: heads and middles are remembered, and tails are at hand.
 
 ghost use Rattle.std.specs.Prelude.{◌≡◌, ◌+◌, ◌<◌, ◌≤◌, ◌++◌, All, IfOk};
-ghost use Rattle.std.specs.Prelude.{length, string_bytes, string_capacity, string_len};
+ghost use Rattle.std.specs.Prelude.{length, string_bytes, string_capacity, string_len, take};
 ghost use Rattle.robust_cert.specs.Parts.{tail_text, AreTailsOf, HasRoomFor, next_entry_text};
 ghost use Rattle.robust_cert.specs.Pieces.{entries_room, next_entries_text};
 ghost use Rattle.robust_cert.specs.Sharing.{reason_at, entries_told, HasReason};
@@ -98,6 +98,28 @@ pub fn put_entries<'t>(
         }
     }
     left
+}
+
+/// So many of these entries are sure to have room in so many bytes, each behind another one. The
+/// first one has room, where there is one.
+pub fn fitting(told: &[Told], reasons: &[Reason], tails: &[String], bytes: usize) -> usize
+    requires tails { AreTailsOf reasons.now tails.now }
+    requires within { All (HasReason reasons.now) told.now }
+    requires short { All (HasRoomFor bytes) reasons.now }
+    ensures within { result ≤ length told.now }
+    ensures room { entries_room reasons.now (take result told.now) ≤ bytes }
+    ensures full { result < length told.now
+        → bytes < entries_room reasons.now (take (result + 1) told.now) }
+{
+    let mut left = bytes;
+    for (count, next) in told.iter().enumerate() {
+        let room = FRONT_BYTES + tail_at(reasons, tails, next.reason as usize).len();
+        if room > left {
+            return count;
+        }
+        left -= room;
+    }
+    told.len()
 }
 
 /// Adds all of some entries behind another one. There is room for them.

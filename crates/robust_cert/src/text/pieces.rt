@@ -24,7 +24,7 @@ const PIECE_BYTES: usize = 65_536;
 // Where threads write a text, they write so many pieces at once, of so many bytes each.
 const SLATES: usize = 8;
 
-const SLATE_BYTES: usize = 262_144;
+const SLATE_BYTES: usize = 524_288;
 
 // For fewer entries no thread is worth its while.
 const MIN_ENTRIES_OF_THREADS: usize = 16_384;
@@ -52,15 +52,15 @@ fn slate_count(entries: usize) -> usize {
     }
 }
 
-// So many entries a piece takes, each of which needs so much room: one at least, and without slates
-// no more.
-fn entries_each(slates: usize, room: usize) -> usize
-    ensures { 0 < result }
+// So many bytes a piece of a text with so many slates has room for, where an entry needs so many:
+// one has room at least, and without slates no more.
+fn piece_bytes(slates: usize, room: usize) -> usize
+    ensures { room ≤ result }
 {
     if slates == 0 {
-        return 1;
+        return room;
     }
-    (SLATE_BYTES / room.max(1)).max(1)
+    SLATE_BYTES.max(room)
 }
 
 /// What is left of a certificate's text: the piece at hand, and what stands behind it. As long as
@@ -69,7 +69,7 @@ fn entries_each(slates: usize, room: usize) -> usize
 pub struct CertificateText<'c> {
     piece: String,
     // Pieces that several threads wrote, as far as they are not given yet.
-    slates: Slates,
+    slates: Slates<'c>,
     // The entries that are still to come, and what they are written from.
     left: &'c [Told],
     reasons: &'c [Reason],
@@ -115,15 +115,12 @@ impl<'c> CertificateText<'c> {
         questions_fit(told);
         let tails = tails_of(alloc, reasons)?;
         let room = room_for(&tails)?;
-        let each = entries_each(count, room);
-        let Some(bytes) = each.checked_mul(room) else {
-            return Err(AllocError);
-        };
+        let bytes = piece_bytes(count, room);
         let mut piece = String::with_capacity(alloc, PIECE_BYTES)?;
         push_opening(&mut piece, certificate)?;
         let left = push_first_entry(&mut piece, told, reasons)?;
         piece.reserve(bytes)?;
-        let slates = Slates::of(alloc, count, each, bytes)?;
+        let slates = Slates::of(alloc, count, bytes)?;
         let heads = Heads::of(alloc, NO_QUESTION)?;
         let middles = Middles::for_entries(alloc, told)?;
         let closing = closing_of(alloc, certificate)?;

@@ -1,18 +1,18 @@
 //! Texts of the next entries, several at once. Each has its room from the beginning, so to write
 //! them takes no memory.
 
-ghost use Rattle.std.specs.Prelude.{◌≡◌, ◌↔◌, ◌+◌, ◌*◌, ◌<◌, ◌≤◌, ◌++◌, ℕ, All, IfOk, IsTrue, drop};
-ghost use Rattle.std.specs.Prelude.{length, string_bytes, string_capacity};
-ghost use Rattle.std.specs.Fork.{slice_chunk};
+ghost use Rattle.std.specs.Prelude.{◌≡◌, ◌↔◌, ◌+◌, ◌<◌, ◌≤◌, ◌++◌, ℕ, All, IfOk, IsTrue, length};
+ghost use Rattle.std.specs.Prelude.{string_bytes, string_capacity};
 ghost use Rattle.robust_cert.specs.Pieces.{next_entries_text};
-ghost use Rattle.robust_cert.specs.Sharing.{entries_told};
-ghost use Rattle.robust_cert.specs.Slates.{CanWrite, CanWriteAll, IsWide, slates_left, slates_text};
+ghost use Rattle.robust_cert.specs.Sharing.{HasReason, entries_told};
+ghost use Rattle.robust_cert.specs.Slates.{CanDealOut, CanTake, CanWrite, IsWide, KeepsWidth};
+ghost use Rattle.robust_cert.specs.Slates.{slates_entries, slates_left, slates_text};
 
 use crate::certificate::EntryQuestion;
 use crate::entries::{Reason, Told};
 use crate::text::heads::Heads;
 use crate::text::middles::Middles;
-use crate::text::next_entries::put_all;
+use crate::text::next_entries::{fitting, put_all};
 use rayon::prelude::*;
 use std::alloc::{AllocError, Global};
 use std::mem::swap;
@@ -28,27 +28,45 @@ pub const NO_QUESTION: EntryQuestion = EntryQuestion {
 
 /// A text of some entries, which one thread writes, with the heads that it remembers.
 #[derive(Drop)]
-pub struct Slate {
+pub struct Slate<'c> {
     pub text: String,
     heads: Heads,
+    pub entries: &'c [Told],
 }
 
-impl Slate {
-    /// A slate with so much room.
+impl<'c> Slate<'c> {
+    /// A slate with so much room, without an entry.
     fn of(alloc: Global, bytes: usize) -> Result<Self, AllocError>
         ensures { IfOk result (λ slate. bytes ≤ string_capacity slate.text) }
     {
         Ok(Slate {
             text: String::with_capacity(alloc, bytes)?,
             heads: Heads::of(alloc, NO_QUESTION)?,
+            entries: &[],
         })
     }
 
-    /// Writes the texts of these entries, each behind a comma, where others stood.
-    fn write(&mut self, told: &[Told], reasons: &[Reason], tails: &[String], middles: &Middles)
-        requires { CanWrite reasons.now tails.now told.now self.old }
+    /// Takes the first of these entries, as many as are sure to have room, and gives those behind
+    /// them.
+    fn take(&mut self, told: &'c [Told], reasons: &[Reason], tails: &[String]) -> &'c [Told]
+        requires { CanTake reasons.now tails.now told.now self.old }
+        ensures all { self.new.entries.now ++ result.now ≡ told.now }
+        ensures room { CanWrite reasons.now tails.now self.new }
+        ensures capacity { string_capacity self.new.text ≡ string_capacity self.old.text }
+        ensures within { All (HasReason reasons.now) result.now }
+        ensures fewer { 0 < length told.now → length result.now < length told.now }
+    {
+        let count = fitting(told, reasons, tails, self.text.capacity());
+        let (first, behind) = told.split_at(count);
+        self.entries = first;
+        behind
+    }
+
+    /// Writes the texts of its entries, each behind a comma, where others stood.
+    fn write(&mut self, reasons: &[Reason], tails: &[String], middles: &Middles)
+        requires { CanWrite reasons.now tails.now self.old }
         ensures text { string_bytes self.new.text
-            ≡ next_entries_text (entries_told reasons.now told.now) }
+            ≡ next_entries_text (entries_told reasons.now self.old.entries.now) }
         ensures capacity { string_capacity self.old.text ≤ string_capacity self.new.text }
     {
         self.text.clear();
@@ -56,7 +74,7 @@ impl Slate {
             &mut self.text,
             &mut self.heads,
             middles,
-            told,
+            self.entries,
             reasons,
             tails,
         );
@@ -65,36 +83,17 @@ impl Slate {
 
 /// Slates that are written together, and then given one by one.
 #[derive(Drop)]
-pub struct Slates {
-    pub all: Vec<Slate>,
+pub struct Slates<'c> {
+    pub all: Vec<Slate<'c>>,
     /// So many of them were given since they were written.
     pub given: usize,
-    /// Each has room for so many entries.
-    pub each: usize,
 }
 
-// The entries behind those of so many slates.
-fn behind_slates<'t>(told: &'t [Told], each: usize, slates: usize) -> &'t [Told]
-    ensures { result.now ≡ drop (slates * each) told.now }
-{
-    let start = slates.saturating_mul(each).min(told.len());
-    &told[start..]
-}
-
-// The entries of the slate of a number.
-fn entries_of<'t>(told: &'t [Told], each: usize, slate: usize) -> &'t [Told]
-    ensures { result.now ≡ slice_chunk told.now each slate }
-{
-    let behind = behind_slates(told, each, slate);
-    &behind[..each.min(behind.len())]
-}
-
-impl Slates {
-    /// So many slates, each with room for so many entries, and for so many bytes.
-    pub fn of(alloc: Global, count: usize, each: usize, bytes: usize) -> Result<Self, AllocError>
+impl<'c> Slates<'c> {
+    /// So many slates, each with room for so many bytes.
+    pub fn of(alloc: Global, count: usize, bytes: usize) -> Result<Self, AllocError>
         ensures count { IfOk result (λ slates. length slates.all.items ≡ count) }
         ensures given { IfOk result (λ slates. slates.given ≡ length slates.all.items) }
-        ensures each { IfOk result (λ slates. slates.each ≡ each) }
         ensures wide { IfOk result (λ slates. All (IsWide bytes) slates.all.items) }
     {
         let mut all = Vec::with_capacity(alloc, count)?;
@@ -104,7 +103,6 @@ impl Slates {
         Ok(Slates {
             given: all.len(),
             all,
-            each,
         })
     }
 
@@ -122,7 +120,6 @@ impl Slates {
             ≡ slates_text (slates_left self.old) }
         ensures left { length (slates_left self.new) + 1 ≡ length (slates_left self.old) }
         ensures count { length self.new.all.items ≡ length self.old.all.items }
-        ensures each { self.new.each ≡ self.old.each }
         ensures wide { (bytes : ℕ) → bytes ≤ string_capacity text.old
             → All (IsWide bytes) self.old.all.items
             → All (IsWide bytes) self.new.all.items × (bytes ≤ string_capacity text.new) }
@@ -132,39 +129,60 @@ impl Slates {
         self.given = next + 1;
     }
 
+    /// Deals out the next entries, and gives those behind them.
+    fn deal_out(&mut self, told: &'c [Told], reasons: &[Reason], tails: &[String]) -> &'c [Told]
+        requires { CanDealOut reasons.now tails.now told.now self.old }
+        ensures all { slates_entries self.new.all.items ++ result.now ≡ told.now }
+        ensures room { All (CanWrite reasons.now tails.now) self.new.all.items }
+        ensures count { length self.new.all.items ≡ length self.old.all.items }
+        ensures wide { KeepsWidth self.old.all.items self.new.all.items }
+        ensures within { All (HasReason reasons.now) result.now }
+        ensures most { length result.now ≤ length told.now }
+        ensures fewer { 0 < length self.old.all.items → 0 < length told.now
+            → length result.now < length told.now }
+    {
+        let mut left = told;
+        for n in 0..self.all.len() {
+            left = self.all[n].take(left, reasons, tails);
+        }
+        left
+    }
+
     /// Writes the texts of the next entries, by several threads, and gives the entries behind them.
-    pub fn write<'t>(
+    pub fn write(
         &mut self,
         rt: &(impl Threads + Sync),
-        told: &'t [Told],
+        told: &'c [Told],
         reasons: &[Reason],
         tails: &[String],
         middles: &Middles,
-    ) -> &'t [Told]
-        requires { CanWriteAll reasons.now tails.now told.now self.old }
+    ) -> &'c [Told]
+        requires { CanDealOut reasons.now tails.now told.now self.old }
         ensures text { slates_text self.new.all.items
             ++ next_entries_text (entries_told reasons.now result.now)
             ≡ next_entries_text (entries_told reasons.now told.now) }
-        ensures left { result.now ≡ drop (length self.old.all.items * self.old.each) told.now }
         ensures count { length self.new.all.items ≡ length self.old.all.items }
         ensures given { self.new.given ≡ 0 }
-        ensures each { self.new.each ≡ self.old.each }
-        ensures wide { (bytes : ℕ) → All (IsWide bytes) self.old.all.items
-            → All (IsWide bytes) self.new.all.items }
+        ensures wide { KeepsWidth self.old.all.items self.new.all.items }
+        ensures within { All (HasReason reasons.now) result.now }
+        ensures none { length self.old.all.items ≡ 0 → result.now ≡ told.now }
+        ensures most { length result.now ≤ length told.now }
+        ensures fewer { 0 < length self.old.all.items → 0 < length told.now
+            → length result.now < length told.now }
     {
-        let each = self.each;
+        let behind = self.deal_out(told, reasons, tails);
         par_for_each_mut(
             rt,
             &mut self.all,
-            |n: usize, slate: &mut Slate|
-                requires { CanWrite reasons.now tails.now (slice_chunk told.now each n) slate.old }
-                ensures text { string_bytes slate.new.text ≡ next_entries_text
-                    (entries_told reasons.entry.now (slice_chunk told.entry.now each n)) }
+            |_n: usize, slate: &mut Slate|
+                requires { CanWrite reasons.now tails.now slate.old }
+                ensures text { string_bytes slate.new.text
+                    ≡ next_entries_text (entries_told reasons.entry.now slate.old.entries.now) }
                 ensures capacity { string_capacity slate.old.text
                     ≤ string_capacity slate.new.text }
-            { slate.write(entries_of(told, each, n), reasons, tails, middles) },
+            { slate.write(reasons, tails, middles) },
         );
         self.given = 0;
-        behind_slates(told, each, self.all.len())
+        behind
     }
 }

@@ -4,12 +4,8 @@ use Rattle.robust_cert.specs.declared.entries.Told.{Told}
 use Rattle.robust_cert.specs.Pieces.{next_entries_text}
 use Rattle.robust_cert.specs.Sharing.{entries_told}
 use Rattle.robust_cert.proofs.Pieces.{entry_given}
-use Rattle.robust_cert.proofs.Slates.{room_more}
+use Rattle.robust_cert.proofs.Slates.{no_told, room_more}
 use Rattle.robust_cert.proofs.text.next_entries.put_all.Goals as goal
-
--- stands for an entry where there is none
-abbrev no_told : Told
-no_told = record { question = record { x = 0; a = 0; y = 0; b = 0 }; reason = 0 }
 
 pub put_next-requires-clause-room : goal.put_next-requires-clause-room
 put_next-requires-clause-room c =

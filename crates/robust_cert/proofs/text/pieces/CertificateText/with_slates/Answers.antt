@@ -1,5 +1,6 @@
-use Rattle.std.proofs.Common.{◌<◌, ◌≤◌, ◌+◌, ◌*◌, ◌++◌, ℕ, List, length, String, string_bytes, sym, subst, ap, ◌∙◌, arith}
+use Rattle.std.proofs.Common.{◌≤◌, ◌+◌, ◌++◌, ℕ, List, length, String, string_bytes, sym, subst, ap, ◌∙◌, arith}
 use Rattle.robust_cert.specs.declared.text.slates.Slate.{Slate}
+use Rattle.std.proofs.lemmas.List.Elements.{All-weaker}
 use Rattle.std.specs.Prelude.{All}
 use Rattle.std.specs.declared.alloc.Global.{Global}
 use Rattle.robust_cert.specs.Json.{EntryFits}
@@ -18,9 +19,8 @@ invariant_of-result c =
       have_reasons = c.in_ok-left.ensures.within;
       have_tails = c.in_ok-tails.ensures;
       have_room = tails_room c.parts.result.1.now c.in_ok-tails.tails.items room c.in_ok-tails.ensures short;
-      some_each = subst (λ (n : ℕ). 0 < n) (sym c.in_ok-slates.ensures.each) c.entries_each-each.ensures;
-      is_wide = λ some. omega (arith, ap (λ (n : ℕ). n * room) c.in_ok-slates.ensures.each, c.in-Some.ensures.1, c.in_ok-reserve.ensures.ok);
-      are_wide = λ some. subst (λ (n : ℕ). All (IsWide n) c.in_ok-slates.slates.all.items) (c.in-Some.ensures.1 ∙ ap (λ (n : ℕ). n * room) (sym c.in_ok-slates.ensures.each)) c.in_ok-slates.ensures.wide;
+      is_wide = λ some. omega (arith, c.piece_bytes-bytes.ensures, c.in_ok-reserve.ensures.ok);
+      are_wide = λ some. All-weaker (IsWide c.piece_bytes-bytes.result) (IsWide room) (λ (s : Slate) (h : IsWide c.piece_bytes-bytes.result s). omega (arith, h, c.piece_bytes-bytes.ensures)) c.in_ok-slates.slates.all.items c.in_ok-slates.ensures.wide;
     }
 
 pub returns-clause-text : goal.returns-clause-text

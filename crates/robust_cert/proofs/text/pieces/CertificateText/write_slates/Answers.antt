@@ -1,15 +1,12 @@
-use Rattle.std.proofs.Common.{◌<◌, ◌≤◌, ◌+◌, ◌*◌, ◌++◌, ℕ, List, drop, length, string_bytes, string_capacity, sym, ap, subst, ◌∙◌, append_assoc, arith}
+use Rattle.std.proofs.Common.{◌<◌, ◌+◌, ◌*◌, ◌++◌, ℕ, List, drop, length, string_bytes, sym, ap, subst, ◌∙◌, append_assoc, arith}
 use Rattle.std.proofs.lemmas.Bool.{false≢true}
 use Rattle.std.proofs.lemmas.Grind.{common_steps}
-use Rattle.std.proofs.lemmas.List.{length-drop}
-use Rattle.std.proofs.lemmas.List.Elements.{All-drop}
-use Rattle.std.specs.Prelude.{All}
 use Rattle.robust_cert.specs.declared.text.slates.Slate.{Slate}
 use Rattle.robust_cert.specs.Parts.{AreTailsOf}
 use Rattle.robust_cert.specs.Pieces.{TextLeft, next_entries_text}
-use Rattle.robust_cert.specs.Sharing.{entries_told, HasReason}
-use Rattle.robust_cert.specs.Slates.{IsWide, slates_text}
-use Rattle.robust_cert.proofs.Slates.{fewer_left, none_left}
+use Rattle.robust_cert.specs.Sharing.{entries_told}
+use Rattle.robust_cert.specs.Slates.{slates_text}
+use Rattle.robust_cert.proofs.Slates.{fewer_left, none_left, some_left}
 use Rattle.robust_cert.proofs.text.pieces.CertificateText.write_slates.Goals as goal
 
 pub write-behind-requires-after_bounds : goal.write-behind-requires-after_bounds
@@ -26,16 +23,12 @@ write-behind-requires-after_bounds g c κs within =
 pub invariant_of-self : goal.invariant_of-self
 invariant_of-self g c =
     let some : 0 < length c.self.inside.left.now = grind (arith, common_steps) in
-    let rs = c.self.inside.reasons.now in
-    let room = c.self.inside.room in
-    let each = sym c.write-behind.ensures.each in
     record {
-      have_reasons = subst (All (HasReason rs)) (sym c.write-behind.ensures.left) (All-drop (HasReason rs) _ c.self.inside.left.now c.self.invariant.have_reasons);
+      have_reasons = c.write-behind.ensures.within;
       have_tails = c.self.invariant.have_tails;
       have_room = c.self.invariant.have_room;
-      some_each = subst (λ (n : ℕ). 0 < n) each c.self.invariant.some_each;
-      is_wide = λ more. subst (λ (n : ℕ). n * room ≤ string_capacity c.self.inside.piece) each (c.self.invariant.is_wide some);
-      are_wide = λ more. subst (λ (n : ℕ). All (IsWide (n * room)) c.write-behind.new.self.all.items) each (c.write-behind.ensures.wide (c.self.inside.slates.each * room) (c.self.invariant.are_wide some));
+      is_wide = λ _. c.self.invariant.is_wide some;
+      are_wide = λ _. c.write-behind.ensures.wide c.self.inside.room (c.self.invariant.are_wide some);
     }
 
 pub returns-clause-behind : goal.returns-clause-behind
@@ -57,9 +50,18 @@ returns-clause-steps g c =
     let some : 0 < length c.self.inside.left.now = grind (arith, common_steps) in
     let slates = length c.self.inside.slates.all.items in
     let rest = length c.write-behind.result.now in
-    let fewer = fewer_left slates c.self.inside.slates.each (length c.self.inside.left.now) rest c.self.invariant.some_each some (ap length c.write-behind.ensures.left ∙ length-drop _ c.self.inside.left.now) in
+    let fewer = fewer_left slates (length c.self.inside.left.now) rest (λ one. c.write-behind.ensures.fewer one some) c.write-behind.ensures.most in
     let given = ap (λ (n : ℕ). length (drop n c.write-behind.new.self.all.items)) c.write-behind.ensures.given in
     let product = ap (λ (n : ℕ). rest * (n + 1)) c.write-behind.ensures.count in
     let none = ap length (none_left c.self.inside.slates no) in
     let old = ap (λ (t : TextLeft). t.steps) c.self.view_is in
     omega (arith, fewer, given, product, none, old, c.write-behind.ensures.count)
+
+pub returns-clause-some : goal.returns-clause-some
+returns-clause-some g c _ =
+    let some : 0 < length c.self.inside.left.now = grind (arith, common_steps) in
+    let count = length c.write-behind.new.self.all.items in
+    let rest = length c.write-behind.result.now in
+    let given = ap (λ (n : ℕ). length (drop n c.write-behind.new.self.all.items)) c.write-behind.ensures.given in
+    let left = some_left count (length c.self.inside.left.now) rest some (λ zero. ap length (c.write-behind.ensures.none (omega (arith, zero, c.write-behind.ensures.count)))) in
+    omega (arith, left, given)
