@@ -1,5 +1,6 @@
 mod AlongWay
 mod AskedEntry
+mod Counting
 mod Listing
 mod NoCertificate
 mod Ranges

@@ -1,11 +1,16 @@
-//! The entries of a certificate, counted in one walk.
-ghost use Rattle.std.specs.Prelude.{◌≡◌, IfOk};
-ghost use Rattle.robust_cert.specs.Sharing.{reason_at, HasReason};
+//! The entries of a certificate, counted in one walk, in parts that several threads walk where
+//! there are many.
+ghost use Rattle.std.specs.Prelude.{◌≡◌, ◌+◌, ◌<◌, All, IfOk, OnOk};
+ghost use Rattle.std.specs.List.{sum_by};
+ghost use Rattle.robust_cert.specs.Sharing.{entries_told, reason_at, HasReason};
 ghost use Rattle.analysis_words.specs.Robust.{apart_count, is_apart};
 
+use crate::limits::{EQUAL_PARTS, MIN_ENTRIES_OF_THREADS};
 use prog_check::Path;
+use rayon::prelude::*;
 use robust_cert::{Entries, EntryQuestion, Reason, Told};
 use std::alloc::{AllocError, Global};
+use std::thread::Threads;
 
 /// An access of a node, and in how many covers it is one of the two.
 #[derive(Clone, Copy)]
@@ -91,22 +96,116 @@ fn most_of_node(node: usize, covers: &[u64], before: Option<Covering>) -> Option
     most
 }
 
+// Adds counts to those of the same accesses.
+fn add_counts(all: &mut [u64], more: &[u64]) {
+    for (access, count) in more.iter().enumerate() {
+        if let Some(sum) = all.get_mut(access) {
+            *sum = sum.saturating_add(*count);
+        }
+    }
+}
+
+// Adds the covers of some entries to those of others.
+fn add_covers(all: &mut [Vec<u64>], more: &[Vec<u64>]) {
+    for (node, counts) in more.iter().enumerate() {
+        if let Some(sums) = all.get_mut(node) {
+            add_counts(sums, counts);
+        }
+    }
+}
+
+// How many entries a part has, of so many.
+fn part_len(entries: usize) -> usize
+    ensures { 0 < result }
+{
+    (entries / EQUAL_PARTS).max(MIN_ENTRIES_OF_THREADS)
+}
+
+// Counts some entries.
+fn count(
+    alloc: Global,
+    nodes: &[Path],
+    told: &[Told],
+    reasons: &[Reason],
+) -> Result<EntryCounts, AllocError>
+    requires { All (HasReason reasons.now) told.now }
+    ensures { IfOk result (λ counts. counts.apart
+        ≡ apart_count (entries_told reasons.now told.now)) }
+{
+    let mut covers = no_covers(alloc, nodes)?;
+    let mut apart = 0;
+    for next in told {
+        let reason = reason_of(next, reasons);
+        if is_apart(reason) {
+            apart += 1;
+        }
+        note_cover(&mut covers, next.question, reason);
+    }
+    Ok(EntryCounts { apart, covers })
+}
+
+// Counts some entries, in parts that threads of their own count where there are many.
+fn count_parts(
+    rt: &(impl Threads + Sync),
+    alloc: Global,
+    nodes: &[Path],
+    told: &[Told],
+    reasons: &[Reason],
+) -> Result<Vec<EntryCounts>, AllocError>
+    requires { All (HasReason reasons.now) told.now }
+    ensures { IfOk result (λ parts. sum_by (λ p. p.apart) parts.items
+        ≡ apart_count (entries_told reasons.now told.now)) }
+{
+    told.par_chunks(part_len(told.len()))
+        .map(
+            |part: &[Told]| -> Result<EntryCounts, AllocError>
+                requires { All (HasReason reasons.now) part.now }
+                ensures { IfOk result (λ counts. counts.apart
+                    ≡ apart_count (entries_told reasons.entry.now part.now)) }
+            { count(alloc, nodes, part, reasons) },
+        )
+        .collect::<Result<Vec<EntryCounts>, AllocError>>(rt, alloc)?
+}
+
 impl EntryCounts {
     /// Counts the entries of a certificate of these nodes.
-    pub fn of(alloc: Global, nodes: &[Path], entries: &Entries) -> Result<Self, AllocError>
+    pub fn of(
+        rt: &(impl Threads + Sync),
+        alloc: Global,
+        nodes: &[Path],
+        entries: &Entries,
+    ) -> Result<Self, AllocError>
         ensures { IfOk result (λ counts. counts.apart ≡ apart_count entries.now) }
     {
-        let mut covers = no_covers(alloc, nodes)?;
-        let mut apart = 0;
-        let (all, reasons) = entries.parts();
-        for told in all {
-            let reason = reason_of(told, reasons);
-            if is_apart(reason) {
-                apart += 1;
-            }
-            note_cover(&mut covers, told.question, reason);
+        let (told, reasons) = entries.parts();
+        let parts = count_parts(rt, alloc, nodes, told, reasons)?;
+        EntryCounts::of_all(alloc, nodes, &parts)
+    }
+
+    // The counts of all parts.
+    fn of_all(alloc: Global, nodes: &[Path], parts: &[EntryCounts]) -> Result<Self, AllocError>
+        ensures { IfOk result (λ counts. counts.apart ≡ sum_by (λ p. p.apart) parts.now) }
+    {
+        let mut counts = EntryCounts {
+            apart: 0,
+            covers: no_covers(alloc, nodes)?,
+        };
+        for part in parts {
+            counts.add(part)?;
         }
-        Ok(EntryCounts { apart, covers })
+        Ok(counts)
+    }
+
+    // Adds the counts of other entries. More than memory can hold are answered as want of it.
+    fn add(&mut self, part: &EntryCounts) -> Result<(), AllocError>
+        ensures { OnOk result (self.new.apart ≡ self.old.apart + part.now.apart) }
+    {
+        let Some(apart) = self.apart.checked_add(part.apart) else {
+            return Err(AllocError);
+        };
+        self.apart = apart;
+        add_covers(&mut self.covers, &part.covers);
+        Ok(())
     }
 
     /// The first access that is one of the two of most covers; none where there is no cover.

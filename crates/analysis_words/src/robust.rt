@@ -16,6 +16,7 @@ use prog_check::ProgramSet;
 use prog_paths::question_count;
 use robust_cert::Certificate;
 use std::alloc::{AllocError, Global};
+use std::thread::Threads;
 
 fn reasons_text(alloc: Global, apart: usize, covered: usize) -> Result<String, AllocError>
     ensures { IfOk result (λ text. string_bytes text ≡ reasons_text apart covered) }
@@ -110,6 +111,7 @@ fn questions_text(
 
 // What is said of a set whose nodes are these.
 fn sentence(
+    rt: &(impl Threads + Sync),
     alloc: Global,
     shown: Shown<'_>,
     certificate: &Certificate,
@@ -117,7 +119,7 @@ fn sentence(
     ensures { IfOk result (λ words. SaysRobust (seen shown.entry) certificate.now
         (string_bytes words)) }
 {
-    let counts = EntryCounts::of(alloc, shown.paths, &certificate.entries)?;
+    let counts = EntryCounts::of(rt, alloc, shown.paths, &certificate.entries)?;
     let most = most_text(alloc, shown, &counts)?;
     let asked = question_count(shown.paths);
     let questions = questions_text(alloc, certificate, &counts, asked, &most)?;
@@ -126,8 +128,9 @@ fn sentence(
 }
 
 /// What a certificate shows of its set, in two lines: how many questions there are, which reasons
-/// they have, and the levels of the nodes.
+/// they have, and the levels of the nodes. Threads count the entries of a long one.
 pub fn robust_words(
+    rt: &(impl Threads + Sync),
     alloc: Global,
     text: &[u8],
     set: &ProgramSet,
@@ -138,5 +141,5 @@ pub fn robust_words(
 {
     let whole = ShownSet::new(alloc, text, set)?;
     let shown = whole.shown();
-    sentence(alloc, shown, certificate)
+    sentence(rt, alloc, shown, certificate)
 }

@@ -2,7 +2,7 @@
 
 use crate::forms::is_event;
 use si_engine::{cut, unsigned};
-use text_places::{as_text, behind};
+use text_places::behind;
 
 /// How far a script was read to find the line of an event.
 #[derive(Clone, Copy)]
@@ -31,7 +31,7 @@ fn event_count(line: &[u8]) -> usize {
     let (word, rest) = cut_word(line);
     match word {
         b"step" => step_count(rest),
-        _ if is_event(as_text(word)) => 1,
+        _ if is_event(word) => 1,
         _ => 0,
     }
 }

@@ -29,15 +29,18 @@ pub fn may_begin(kind: PartKind, first: &str) -> bool {
 }
 
 /// Whether a line of a script that begins with a word is an event, or several: all but rows are.
-pub fn is_event(first: &str) -> bool {
-    first != "row" && may_begin(PartKind::Script, first)
+pub fn is_event(first: &[u8]) -> bool {
+    matches!(
+        first,
+        b"begin" | b"begin-at" | b"step" | b"commit" | b"abort" | b"vacuum"
+    )
 }
 
 /// The command that reads lines which begin with a word, of such as not every list has.
 pub fn command_of(first: &str) -> Option<&'static str> {
     match first {
         "row" => None,
-        _ if is_event(first) => Some("run"),
+        _ if is_event(first.as_bytes()) => Some("run"),
         _ if may_begin(PartKind::Records, first) => Some("audit"),
         _ if may_begin(PartKind::Jobs, first) => Some("work"),
         _ => None,

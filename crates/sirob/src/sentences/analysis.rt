@@ -10,6 +10,7 @@ use prog_tree::Sequence;
 use robust_cert::Certificate;
 use si_repair::{AnalyseFault, Plan, plan};
 use std::alloc::{AllocError, Global};
+use std::thread::Threads;
 
 /// Why a set is not analysed.
 pub fn analysis_sentence(alloc: Global, fault: AnalyseFault) -> Result<Option<String>, AllocError> {
@@ -56,6 +57,7 @@ pub fn refusal_sentence(
 
 /// What the certificate of the set of an input shows.
 pub fn robust_sentence(
+    rt: &(impl Threads + Sync),
     alloc: Global,
     input: KeptInput<'_>,
     certificate: &Certificate,
@@ -63,6 +65,6 @@ pub fn robust_sentence(
     let Some(set) = input.set(alloc) else {
         return Ok(None);
     };
-    let words = robust_words(alloc, input.text, &set, certificate)?;
+    let words = robust_words(rt, alloc, input.text, &set, certificate)?;
     Ok(Some(words))
 }

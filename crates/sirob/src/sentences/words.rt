@@ -17,6 +17,7 @@ use run_words::{PartKind, extra_part_words, line_fault_words, missing_part_words
 use si_engine::{InputFault, MAX_INPUT_BYTES, PartFault};
 use si_repair::Finding;
 use std::alloc::{AllocError, Global};
+use std::thread::Threads;
 
 // What stands in the second part of a command's input, where it has one.
 fn second_wanted(mode: Mode) -> Option<&'static str> {
@@ -140,44 +141,51 @@ fn unserializable_words(alloc: Global, kept: &Kept) -> Result<Option<String>, Al
 }
 
 // What a certificate shows that was found.
-fn found_sentence(alloc: Global, kept: &Kept) -> Result<Option<String>, AllocError> {
+fn found_sentence(
+    rt: &(impl AllocGlobal + Threads + Sync),
+    kept: &Kept,
+) -> Result<Option<String>, AllocError> {
     match &kept.found {
         Some(Finding::Robust(certificate)) => {
-            robust_sentence(alloc, KeptInput::of(&kept.input), certificate)
+            robust_sentence(rt, rt.alloc(), KeptInput::of(&kept.input), certificate)
         }
         _ => Ok(None),
     }
 }
 
-fn done_sentence(alloc: Global, mode: Mode, kept: &Kept) -> Result<Option<String>, AllocError> {
+fn done_sentence(
+    rt: &(impl AllocGlobal + Threads + Sync),
+    mode: Mode,
+    kept: &Kept,
+) -> Result<Option<String>, AllocError> {
     match mode {
-        Mode::Certify => found_sentence(alloc, kept),
-        Mode::Repair { promote } => repair_sentence(alloc, kept, promote),
-        Mode::Run { .. } => refused_sentence(alloc, kept),
-        Mode::Work { .. } => lost_sentence(alloc, kept),
+        Mode::Certify => found_sentence(rt, kept),
+        Mode::Repair { promote } => repair_sentence(rt.alloc(), kept, promote),
+        Mode::Run { .. } => refused_sentence(rt.alloc(), kept),
+        Mode::Work { .. } => lost_sentence(rt.alloc(), kept),
         _ => Ok(None),
     }
 }
 
 // What is to be said of how a command ended, beside its cycle.
 fn ending_words(
-    alloc: Global,
+    rt: &(impl AllocGlobal + Threads + Sync),
     mode: Mode,
     kept: &Kept,
     ended: Result<Status, CommandFault>,
 ) -> Result<Option<String>, AllocError> {
     match ended {
-        Ok(Status::Unserializable) => unserializable_words(alloc, kept),
-        Ok(Status::Done) => done_sentence(alloc, mode, kept),
+        Ok(Status::Unserializable) => unserializable_words(rt.alloc(), kept),
+        Ok(Status::Done) => done_sentence(rt, mode, kept),
         Ok(Status::Faulty | Status::Memory) => Ok(None),
-        Err(fault) => words_of(alloc, mode, KeptInput::of(&kept.input), fault),
+        Err(fault) => words_of(rt.alloc(), mode, KeptInput::of(&kept.input), fault),
     }
 }
 
 /// Says on the standard error what is wrong with an input, why its set is refused, in which cycle
 /// its commits end, or which lines do nothing, unless memory runs out for it.
 pub fn explain(
-    rt: &(impl AllocGlobal + Eprint),
+    rt: &(impl AllocGlobal + Eprint + Threads + Sync),
     mode: Mode,
     kept: &Kept,
     ended: Result<Status, CommandFault>,
@@ -185,7 +193,7 @@ pub fn explain(
     if let (Ok(Status::Unserializable), Some(cycle)) = (ended, &kept.cycle) {
         let _ = rt.eprint(cycle);
     }
-    if let Ok(Some(words)) = ending_words(rt.alloc(), mode, kept, ended) {
+    if let Ok(Some(words)) = ending_words(rt, mode, kept, ended) {
         let _ = rt.eprint(&words);
     }
 }

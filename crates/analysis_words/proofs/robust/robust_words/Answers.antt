@@ -4,6 +4,6 @@ use Rattle.analysis_words.specs.Robust.{SaysRobust}
 use Rattle.analysis_words.proofs.robust.robust_words.Goals as goal
 
 pub returns : goal.returns
-returns c =
+returns g c =
     subst (λ (s : Sight). IfOk c.sentence.result (λ words. SaysRobust s c.args.certificate.now (string_bytes words)))
     (c.shown-shown.ensures ∙ c.in_ok-whole.ensures) c.sentence.ensures

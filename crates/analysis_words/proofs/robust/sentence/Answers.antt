@@ -4,7 +4,7 @@ use Rattle.analysis_words.specs.Robust.{questions_text}
 use Rattle.analysis_words.proofs.robust.sentence.Goals as goal
 
 pub returns : goal.returns
-returns c =
+returns g c =
     let asked = c.question_count-asked.ensures in
     let most = c.deref.ensures in
     let questions = c.in_ok-questions.ensures ∙ (λ i. questions_text c.args.certificate.now (asked i) (most i)) in
