@@ -218,7 +218,7 @@ pub row-joined_with_set : (size width count of_set : ℕ) (words new bits : List
     → JoinsWords words new bits (row * width) 0 count → JoinsSet old (grid_of size width new) row (set_of of_set bits)
 row-joined_with_set size width count of_set words new bits old row is are row_old fits whole inside joins =
     let same : size ≡ old.size = ap (λ (g : Grid). g.size) is in
-    row-joined_by size width count words new bits old row 0 (λ j. is_in (set_of of_set bits) j) is are row_old fits inside
+    row-joined_by size width count words new bits old row (0) (λ j. is_in (set_of of_set bits) j) is are row_old fits inside
     (λ j b.
     let e : 0 + j / 64 ≡ j / 64 = omega arith in
     ap (λ (p : ℕ). has_bit (get_or bits p 0) (j % 64)) e ∙ sym (member_is of_set bits j (omega (arith, b, same, whole, set_size of_set bits)))) joins
