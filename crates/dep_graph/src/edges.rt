@@ -1,6 +1,6 @@
 //! The edges that the answers to all questions of a list of paths give.
 
-ghost use Rattle.std.specs.Prelude.{◌≡◌, ◌<◌, ◌&&◌, ◌||◌, ℕ, IfOk, Some, length, slice_get};
+ghost use Rattle.std.specs.Prelude.{◌≡◌, ◌<◌, ◌==◌, ◌&&◌, ◌||◌, ℕ, IfOk, Some, length, slice_get};
 ghost use Rattle.order_facts.specs.Sets.{is_in};
 ghost use Rattle.order_facts.specs.Square.{Enters};
 ghost use Rattle.prog_paths.specs.StaticGraph.{StaticEdge, IsVulnerable};
@@ -39,7 +39,17 @@ fn join_to_set(table: &mut Square, nodes: &[usize], set: &NodeSet)
     }
 }
 
-/// Joins each of some nodes to each of others where that is given. The others are put into the set.
+/// Joins a node to another one.
+fn join_one(table: &mut Square, x: usize, y: usize)
+    ensures { Enters table.old table.new (λ i j. (x == i) && (y == j)) }
+{
+    if x < table.size() && y < table.size() {
+        table.raise(x, y);
+    }
+}
+
+/// Joins each of some nodes to each of others where that is given. The others are put into the set,
+/// but for one alone, which is joined to one faster than a set is filled.
 fn join_given(
     is_given: bool,
     table: &mut Square,
@@ -52,10 +62,15 @@ fn join_given(
         (λ x y. is_given && are_of firsts.now seconds.now x y) }
     ensures size { length set.new ≡ length set.old }
 {
-    if is_given {
-        fill(set, seconds);
-        join_to_set(table, firsts, set);
+    if !is_given {
+        return;
     }
+    if let ([x], [y]) = (firsts, seconds) {
+        join_one(table, *x, *y);
+        return;
+    }
+    fill(set, seconds);
+    join_to_set(table, firsts, set);
 }
 
 /// Enters what is given from each of some nodes to each of others.
