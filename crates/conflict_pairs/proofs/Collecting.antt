@@ -32,6 +32,10 @@ module _ (paths : List Path) where
       All-append (IsAsked paths) (asked_by f seconds) (asked_among rest seconds) (by_asked f seconds (All-head (λ p. IsAt paths p) f rest h) k)
       (among_asked rest seconds (All-tail (λ p. IsAt paths p) f rest h) k)
 
+-- each that some of the accesses ask
+pub some_asked : (paths : List Path) (firsts places : List Placed) → places ≡ all_from 0 paths → All (λ p. IsAt paths p) firsts → All (IsAsked paths) (asked_among firsts places)
+some_asked paths firsts places are at = among_asked paths firsts places at (subst (λ (l : List Placed). All (λ p. IsAt paths p) l) (sym are) (all_places_stand paths))
+
 pub all_asked : (paths : List Path) → All (IsAsked paths) (questions_of paths)
 all_asked paths = among_asked paths (all_from 0 paths) (all_from 0 paths) (all_places_stand paths) (all_places_stand paths)
 

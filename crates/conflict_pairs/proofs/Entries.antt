@@ -8,8 +8,6 @@ use Rattle.prog_paths.specs.Tally.{of_table}
 use Rattle.prog_paths.specs.Changers.{changers_of}
 use Rattle.prog_paths.proofs.Changing.{seconds_ask}
 use Rattle.prog_paths.proofs.Questions.{asked_by-append, asked_among-append}
-use Rattle.conflict_pairs.specs.Pairing.{place_at}
-use Rattle.conflict_pairs.proofs.Paired.{place-any}
 
 -- ---- what is made of the rest of a list
 
@@ -27,9 +25,10 @@ asked-take first qs i xs d lt =
     ∙ sym (append_assoc qs (asked_by first (take i xs)) (asked_by first (get_or xs i d ∷ [])))
 
 -- what the accesses so far ask, with one more, of which only the changers of its table are asked
-pub among-take : (n : ℕ) (xs seconds changers : List Placed) (d : Placed) → n < length xs → seconds ≡ of_table (get_or xs n d).access.table changers → ((table : ℕ) → of_table table changers ≡ changers_of table xs) → asked_among (take n xs) xs ++ asked_by (place_at xs n) seconds ≡ asked_among (take (n + 1) xs) xs
-among-take n xs seconds changers d lt table all =
-    ap (λ (p : Placed). asked_among (take n xs) xs ++ asked_by p seconds) (sym (place-any xs n d lt))
-    ∙ ap (λ (l : List Question). asked_among (take n xs) xs ++ l) (seconds_ask (get_or xs n d) xs changers seconds table all ∙ sym (append-nil (asked_by (get_or xs n d) xs)))
-    ∙ sym (asked_among-append (take n xs) (get_or xs n d ∷ []) xs)
-    ∙ ap (λ (l : List Placed). asked_among l xs) (sym (take_more xs n d lt))
+pub among-take : (n : ℕ) (firsts xs seconds changers : List Placed) (d : Placed) → n < length firsts → seconds ≡ of_table (get_or firsts n d).access.table changers → ((table : ℕ) → of_table table changers ≡ changers_of table xs)
+    → asked_among (take n firsts) xs ++ asked_by (get_or firsts n d) seconds ≡ asked_among (take (n + 1) firsts) xs
+among-take n firsts xs seconds changers d lt table all =
+    let first = get_or firsts n d in
+    ap (λ (l : List Question). asked_among (take n firsts) xs ++ l) (seconds_ask first xs changers seconds table all ∙ sym (append-nil (asked_by first xs)))
+    ∙ sym (asked_among-append (take n firsts) (first ∷ []) xs)
+    ∙ ap (λ (l : List Placed). asked_among l xs) (sym (take_more firsts n d lt))

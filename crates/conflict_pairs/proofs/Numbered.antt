@@ -1,19 +1,24 @@
 -- The entries of questions that have the numbers of their verdicts.
-use Rattle.std.proofs.Common.{◌≡◌, ℕ, ◌<◌, List, [], ◌∷◌, length, map, get_or, refl, sym, subst, ap, ◌∙◌, arith, zero, suc}
+use Rattle.std.proofs.Common.{◌≡◌, ℕ, ◌<◌, List, [], ◌∷◌, ◌++◌, length, map, get_or, refl, sym, subst, ap, ◌∙◌, arith, zero, suc}
 use Rattle.std.specs.Prelude.{All, Some, slice_get}
 use Rattle.std.specs.List.{AllZip}
-use Rattle.std.proofs.lemmas.List.Elements.{All-nil, All-cons, All-head, All-tail}
+use Rattle.std.proofs.lemmas.List.{length-map, map-append}
+use Rattle.std.proofs.lemmas.List.Elements.{All-append, All-nil, All-cons, All-head, All-tail}
 use Rattle.std.proofs.lemmas.Option.{get_or_from_slice_get, slice_get-get_or, slice_get_within, same_Some}
 use Rattle.prog_check.specs.declared.path.Path.{Path}
 use Rattle.prog_paths.specs.declared.accesses.questions.Question.{Question}
 use Rattle.prog_paths.specs.Questions.{ChangesSingleCells, questions_of}
 use Rattle.prog_paths.specs.Listing.{IsAskedOf}
+use Rattle.prog_paths.specs.declared.accesses.places.Placed.{Placed}
 use Rattle.prog_paths.proofs.Membership.{Asks-from_asks}
 use Rattle.conflict_pairs.specs.declared.verdicts.Verdict.{Verdict}
 use Rattle.conflict_pairs.specs.declared.verdicts.Verdict.TheVariants.{Apart}
 use Rattle.conflict_pairs.specs.Table.{Judged, Table, verdict_at, entry_by, entries_of, IsOnQuestion, IsRightEntry, StandsFor}
 use Rattle.conflict_pairs.specs.Interning.{IsServed}
 use Rattle.conflict_pairs.specs.Alike.{IsAsked, IsJudgedAt, IsOnAsked}
+use Rattle.conflict_pairs.specs.declared.listing.Listed.{Listed}
+use Rattle.conflict_pairs.specs.Listed.{AreJudged, AreQuestionsListed, IsListedIn, entries_in}
+use Rattle.conflict_pairs.specs.Pairing.{question_at}
 use Rattle.conflict_pairs.proofs.Serving.{served-within}
 use Rattle.conflict_pairs.proofs.Zipped.{AllZip-lengths}
 use Rattle.conflict_pairs.proofs.Likeness.{right-judged}
@@ -91,11 +96,56 @@ module _ (paths : List Path) (vs : List Verdict) where
       (right-judged paths q single (All-head (IsAsked paths) q qs h) (verdict_at vs n) (judged-at q n k.0))
       (entries-right single qs ns (All-tail (IsAsked paths) q qs h) k.1)
 
+  entries-asked : (qs : List Question) (ns : List ℕ) → All (IsAsked paths) qs → All (λ e. IsAskedOf paths e.question) (entries_of vs qs ns)
+  entries-asked [] ns h = All-nil (λ (e : Judged). IsAskedOf paths e.question)
+  entries-asked (q ∷ qs) [] h = All-nil (λ (e : Judged). IsAskedOf paths e.question)
+  entries-asked (q ∷ qs) (n ∷ ns) h =
+      All-cons (λ (e : Judged). IsAskedOf paths e.question) (entry_by vs q n) (entries_of vs qs ns)
+      (IsAskedOf-from_asked paths q (All-head (IsAsked paths) q qs h)) (entries-asked qs ns (All-tail (IsAsked paths) q qs h))
+
+  module _ (places : List Placed) (listed : Listed) (qs : List Question) (h : AreQuestionsListed paths vs places listed qs) where
+    one_each : length qs ≡ length listed.numbers.items
+    one_each = AllZip-lengths (IsServed (IsJudgedAt paths) vs) qs listed.numbers.items h.served
+
+    -- questions with the numbers of verdicts on them have accesses and verdicts
+    pub listed-from : IsListedIn places vs listed
+    listed-from = record {
+      one_each = sym (length-map listed.pairs.items (question_at places)) ∙ ap (λ (l : List Question). length l) h.questions ∙ one_each;
+      placed = h.within;
+      within = numbers-within qs listed.numbers.items h.served;
+    }
+
+    -- and right ones
+    pub judged-from : All ChangesSingleCells paths → All (IsAsked paths) qs → AreJudged paths (entries_in places vs listed) qs
+    judged-from single asked =
+        let same = ap (λ (l : List Question). entries_of vs l listed.numbers.items) h.questions in
+        record {
+          questions = ap (map (λ (e : Judged). e.question)) same ∙ entries-questions vs qs listed.numbers.items one_each;
+          asked = subst (λ (l : List Judged). All (λ e. IsAskedOf paths e.question) l) (sym same) (entries-asked qs listed.numbers.items asked);
+          right = subst (λ (l : List Judged). All (λ e. IsRightEntry paths e) l) (sym same) (entries-right single qs listed.numbers.items asked h.served);
+        }
+
   -- the table of all questions
-  pub StandsFor-from : All ChangesSingleCells paths → All (IsOnAsked paths) vs → (table : Table) (qs : List Question) (ns : List ℕ) → All (IsAsked paths) qs → AllZip (IsServed (IsJudgedAt paths) vs) qs ns → table.paths ≡ paths → table.verdicts ≡ vs → table.entries ≡ entries_of vs qs ns → qs ≡ questions_of paths → StandsFor table paths
-  StandsFor-from single sound table qs ns h k same verdicts entries all = record {
+  pub StandsFor-from : All (IsOnQuestion paths) vs → (table : Table) → AreJudged paths table.entries (questions_of paths) → table.paths ≡ paths → table.verdicts ≡ vs → StandsFor table paths
+  StandsFor-from on table judged same verdicts = record {
     of_paths = same;
-    questions = ap (map (λ (e : Judged). e.question)) entries ∙ entries-questions vs qs ns (AllZip-lengths (IsServed (IsJudgedAt paths) vs) qs ns k) ∙ all;
-    right = subst (λ (l : List Judged). All (λ e. IsRightEntry paths e) l) (sym entries) (entries-right single qs ns h k);
-    verdicts = subst (λ (l : List Verdict). All (IsOnQuestion paths) l) (sym verdicts) (verdicts-right paths single vs sound);
+    questions = judged.questions;
+    right = judged.right;
+    verdicts = subst (λ (l : List Verdict). All (IsOnQuestion paths) l) (sym verdicts) on;
   }
+
+-- ---- of two parts
+
+pub judged-none : (paths : List Path) → AreJudged paths [] []
+judged-none paths = record {
+  questions = refl;
+  asked = All-nil (λ (e : Judged). IsAskedOf paths e.question);
+  right = All-nil (λ (e : Judged). IsRightEntry paths e);
+}
+
+pub judged-append : (paths : List Path) (es fs : List Judged) (qs rs : List Question) → AreJudged paths es qs → AreJudged paths fs rs → AreJudged paths (es ++ fs) (qs ++ rs)
+judged-append paths es fs qs rs h k = record {
+  questions = map-append (λ (e : Judged). e.question) es fs ∙ (λ i. h.questions i ++ k.questions i);
+  asked = All-append (λ (e : Judged). IsAskedOf paths e.question) es fs h.asked k.asked;
+  right = All-append (λ (e : Judged). IsRightEntry paths e) es fs h.right k.right;
+}

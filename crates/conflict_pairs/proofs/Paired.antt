@@ -29,16 +29,18 @@ module _ {X Y : Type 0} (f : X → Y) where
 
 -- ---- pairs of accesses of paths
 
--- each access of the paths has its number
-pub all-stand : (paths : List Path) → All (StandsAt (starts_from 0 paths) (all_from 0 paths)) (all_from 0 paths)
-all-stand paths k d lt =
-    let p = get_or (all_from 0 paths) k d in
-    let at : IsAt paths p = all_places_stand paths k d lt in
+-- an access of the paths has its number
+pub stand-one : (paths : List Path) (p : Placed) → IsAt paths p → StandsAt (starts_from 0 paths) (all_from 0 paths) p
+stand-one paths p at =
     let node = slice_get_within paths p.node at.0 at.1 in
     record {
       has_start = omega (arith, node, starts-length 0 paths);
       stands = place-stands paths p.node p.number (p.access, at);
     }
+
+-- so has each
+pub all-stand : (paths : List Path) → All (StandsAt (starts_from 0 paths) (all_from 0 paths)) (all_from 0 paths)
+all-stand paths k d lt = stand-one paths (get_or (all_from 0 paths) k d) (all_places_stand paths k d lt)
 
 -- what holds of each access holds of those that change a table
 pub changers-all : (P : Placed → Type 0) (places changers seconds : List Placed) (table : ℕ) → seconds ≡ of_table table changers → ((table : ℕ) → of_table table changers ≡ changers_of table places) → All P places → All P seconds

@@ -61,25 +61,27 @@ module _ (paths : List Path) (places : List Placed) where
       subst (λ (l : List PlacePair). ArePairsJudged paths places l (verdicts_in parts) (numbers_in 0 parts)) (chunks_of-concat (max size 1) pairs some)
       (record { sound = sound-in chunks parts h; served = served-in [] chunks parts h })
 
-  chunks_asked : (fuel : ℕ) (pairs : List PlacePair) (size : ℕ) → All (IsAskedBetween paths places) pairs → All (λ (chunk : List PlacePair). All (IsAskedBetween paths places) chunk) (chunks_from fuel size pairs)
-  chunks_asked zero pairs size h = All-nil (λ (chunk : List PlacePair). All (IsAskedBetween paths places) chunk)
-  chunks_asked (suc n) [] size h = All-nil (λ (chunk : List PlacePair). All (IsAskedBetween paths places) chunk)
-  chunks_asked (suc n) (p ∷ pairs) size h =
-      All-cons (λ (chunk : List PlacePair). All (IsAskedBetween paths places) chunk) (take size (p ∷ pairs)) (chunks_from n size (drop size (p ∷ pairs)))
-      (All-take (IsAskedBetween paths places) size (p ∷ pairs) h) (chunks_asked n (drop size (p ∷ pairs)) size (All-drop (IsAskedBetween paths places) size (p ∷ pairs) h))
+-- ---- what holds of all holds of those in each chunk
 
-  pub each_chunk_asked : (pairs : List PlacePair) (size : ℕ) → All (IsAskedBetween paths places) pairs → All (λ (chunk : List PlacePair). All (IsAskedBetween paths places) chunk) (chunks_of size pairs)
-  each_chunk_asked pairs size h = chunks_asked (length pairs) pairs size h
+module _ {X : Type 0} (P : X → Type 0) where
+  in_chunks : (fuel : ℕ) (xs : List X) (size : ℕ) → All P xs → All (λ (chunk : List X). All P chunk) (chunks_from fuel size xs)
+  in_chunks zero xs size h = All-nil (λ (chunk : List X). All P chunk)
+  in_chunks (suc n) [] size h = All-nil (λ (chunk : List X). All P chunk)
+  in_chunks (suc n) (x ∷ xs) size h =
+      All-cons (λ (chunk : List X). All P chunk) (take size (x ∷ xs)) (chunks_from n size (drop size (x ∷ xs)))
+      (All-take P size (x ∷ xs) h) (in_chunks n (drop size (x ∷ xs)) size (All-drop P size (x ∷ xs) h))
 
--- ---- the verdicts of all parts, one part more at a time
+  pub in_each_chunk : (xs : List X) (size : ℕ) → All P xs → All (λ (chunk : List X). All P chunk) (chunks_of size xs)
+  in_each_chunk xs size h = in_chunks (length xs) xs size h
 
-pub joined-more : (old new whole : List Verdict) (rest left : List (Interned Verdict)) (part : Interned Verdict) → left ≡ part ∷ rest → new ≡ old ++ part.values.items → old ++ verdicts_in left ≡ whole → new ++ verdicts_in rest ≡ whole
-joined-more old new whole rest left part first added h =
-    ap (λ (l : List Verdict). l ++ verdicts_in rest) added ∙ append_assoc old part.values.items (verdicts_in rest)
-    ∙ ap (λ (l : List (Interned Verdict)). old ++ verdicts_in l) (sym first) ∙ h
+-- ---- one part more at a time
 
--- ---- and their numbers
+-- what all parts have
+pub joined-more : {A X : Type 0} (f : A → List X) (old new whole : List X) (rest left : List A) (part : A) → left ≡ part ∷ rest → new ≡ old ++ f part → old ++ flat_map f left ≡ whole → new ++ flat_map f rest ≡ whole
+joined-more f old new whole rest left part first added h =
+    ap (λ l. l ++ flat_map f rest) added ∙ append_assoc old (f part) (flat_map f rest) ∙ ap (λ l. old ++ flat_map f l) (sym first) ∙ h
 
+-- the numbers of their verdicts
 pub numbered-more : (old new whole : List ℕ) (before behind : ℕ) (rest left : List (Interned Verdict)) (part : Interned Verdict) → left ≡ part ∷ rest → new ≡ old ++ map (λ n. before + n) part.numbers.items → behind ≡ before + length part.values.items → old ++ numbers_in before left ≡ whole → new ++ numbers_in behind rest ≡ whole
 numbered-more old new whole before behind rest left part first added is h =
     ap (λ (l : List ℕ). l ++ numbers_in behind rest) added

@@ -17,13 +17,14 @@ use Rattle.conflict_pairs.specs.declared.verdicts.Verdict.{Verdict}
 use Rattle.conflict_pairs.specs.Alike.{IsLike}
 use Rattle.conflict_pairs.specs.ClassPairs.{HasPairIn, IsInRow, IsPairOf, row_at}
 use Rattle.conflict_pairs.specs.Classed.{AreClassesJudged}
+use Rattle.prog_paths.specs.Places.{IsAt}
 use Rattle.conflict_pairs.specs.Classes.{AreClassesOf, AreLikePlaces, class_at, starts_from}
 use Rattle.conflict_pairs.specs.Interning.{IsServed}
 use Rattle.conflict_pairs.specs.Listed.{AnswersOf, IsSpread, SpreadsRow, second_class}
 use Rattle.conflict_pairs.specs.Pairing.{IsAskedBetween, StandsAt, place_at, question_at}
 use Rattle.conflict_pairs.specs.Sharing.{IsOnPair}
 use Rattle.conflict_pairs.proofs.Likeness.{judged-like}
-use Rattle.conflict_pairs.proofs.Paired.{all-stand}
+use Rattle.conflict_pairs.proofs.Paired.{all-stand, stand-one}
 use Rattle.conflict_pairs.proofs.Serving.{served-at}
 use Rattle.conflict_pairs.proofs.Zipped.{AllZip-lengths}
 
@@ -59,6 +60,12 @@ module _ (k : AccessClasses) (pairs : List PlacePair) (of_pairs : List ℕ) (row
           }
 
 -- ---- what is known of the classes and their rows
+
+-- an access of the paths has its number
+pub place-stands-at : (paths : List Path) (k : AccessClasses) → AreClassesOf paths k → (p : Placed) → IsAt paths p → StandsAt k.starts.items k.places.items p
+place-stands-at paths k h p at =
+    subst (λ (l : List ℕ). StandsAt l k.places.items p) (sym h.starts_are)
+    (subst (λ (l : List Placed). StandsAt (starts_from 0 paths) l p) (sym h.places_are) (stand-one paths p at))
 
 -- each access has its number
 pub places-stand : (paths : List Path) (k : AccessClasses) → AreClassesOf paths k → All (StandsAt k.starts.items k.places.items) k.places.items

@@ -1,7 +1,8 @@
 -- All questions one by one, each with the number of its verdict, which is that of a pair of classes.
-use Rattle.std.specs.Prelude.{◌≡◌, ℕ, ◌<◌, ◌++◌, List, length, All, slice_index_or, true}
+use Rattle.std.specs.Prelude.{◌≡◌, ℕ, ◌<◌, ◌++◌, List, length, map, All, slice_index_or, true}
 use Rattle.std.specs.List.{AllZip}
 use Rattle.prog_check.specs.declared.path.Path.{Path}
+use Rattle.prog_paths.specs.Listing.{IsAskedOf}
 use Rattle.prog_paths.specs.Questions.{asked_by, asks, question_between}
 use Rattle.prog_paths.specs.declared.accesses.places.Placed.{Placed}
 use Rattle.prog_paths.specs.declared.accesses.questions.Question.{Question}
@@ -15,6 +16,7 @@ use Rattle.conflict_pairs.specs.ClassPairs.{IsInRow}
 use Rattle.conflict_pairs.specs.Classes.{class_at}
 use Rattle.conflict_pairs.specs.Interning.{IsServed}
 use Rattle.conflict_pairs.specs.Pairing.{HasPlaces, place_at, questions_at}
+use Rattle.conflict_pairs.specs.Table.{Judged, IsRightEntry, entries_of}
 
 -- the class of the second access of the pair at a place
 abbrev pub second_class : AccessClasses → List PlacePair → ℕ → ℕ
@@ -61,3 +63,22 @@ AddsQuestions k m answers old new seconds =
     (paths : List Path) (verdicts : List Verdict) (qs : List Question) → AnswersOf paths verdicts k m answers
     → AreQuestionsListed paths verdicts k.places.items old qs
     → AreQuestionsListed paths verdicts k.places.items new (qs ++ asked_by (place_at k.places.items m) seconds)
+
+-- ---- a part of all questions
+
+-- the questions that are listed, each with the verdict of its number
+abbrev pub entries_in : List Placed → List Verdict → Listed → List Judged
+entries_in places verdicts listed =
+    entries_of verdicts (questions_at places listed.pairs.items) listed.numbers.items
+
+-- each has two accesses and a verdict
+pub record IsListedIn (places : List Placed) (verdicts : List Verdict) (listed : Listed) : Type 0 where
+  pub one_each : length listed.pairs.items ≡ length listed.numbers.items
+  pub placed : All (HasPlaces places) listed.pairs.items
+  pub within : All (λ n. n < length verdicts) listed.numbers.items
+
+-- these are some questions of the paths, each with a right verdict
+pub record AreJudged (paths : List Path) (entries : List Judged) (qs : List Question) : Type 0 where
+  pub questions : map (λ e. e.question) entries ≡ qs
+  pub asked : All (λ e. IsAskedOf paths e.question) entries
+  pub right : All (λ e. IsRightEntry paths e) entries

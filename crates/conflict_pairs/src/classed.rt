@@ -1,11 +1,13 @@
 //! What is told of all questions of a list of paths, class by class.
 ghost use Rattle.std.specs.Prelude.{◌≡◌, ◌↔◌, ◌<◌, [], length, All, IfOk, Err, IsTrue, Some, slice_get};
-ghost use Rattle.prog_paths.specs.Questions.{ChangesSingleCells, questions_of};
+ghost use Rattle.prog_paths.specs.Places.{IsAt};
+ghost use Rattle.prog_paths.specs.Questions.{ChangesSingleCells, asked_among, questions_of};
 ghost use Rattle.prog_paths.specs.Limits.{most_questions};
 ghost use Rattle.conflict_pairs.specs.Classed.{AnswersAll, AreClassesJudged, ClassAnswer};
 ghost use Rattle.conflict_pairs.specs.Classes.{AreClassesOf};
 ghost use Rattle.conflict_pairs.specs.ClassPairs.{AreClassPairs};
-ghost use Rattle.conflict_pairs.specs.Table.{StandsFor};
+ghost use Rattle.conflict_pairs.specs.Listed.{AreJudged, IsListedIn, entries_in};
+ghost use Rattle.conflict_pairs.specs.Table.{IsOnQuestion, StandsFor};
 ghost use Rattle.conflict_pairs.specs.declared.fault.PairFault as PairFault;
 
 use crate::class_pairs::{ClassPairs, class_pairs};
@@ -13,9 +15,9 @@ use crate::classes::{AccessClasses, classes_of, nodes_like};
 use crate::fault::PairFault;
 use crate::interning::Interned;
 use crate::judge::verdicts_of;
-use crate::listing::all_listed;
+use crate::listing::{Listed, listed_of};
 use crate::parallel::verdicts_par;
-use crate::table::PairTable;
+use crate::table::{PairTable, TablePart};
 use crate::verdicts::Verdict;
 use prog_check::{Kind, Path};
 use prog_paths::{MAX_QUESTIONS, Placed, question_count};
@@ -108,15 +110,18 @@ impl<'a> ClassTable<'a> {
     }
 
     /// The accesses of the paths, one by one.
-    pub(crate) fn places(&self) -> &[Placed]
-        ensures { result.now ≡ self.now.places }
+    pub fn places(&self) -> &[Placed]
+        ensures places { result.now ≡ self.now.places }
+        ensures stand { All (λ p. IsAt self.now.paths p) result.now }
+        ensures all { asked_among result.now result.now ≡ questions_of self.now.paths }
     {
         self.classes.places.as_slice()
     }
 
     /// The verdicts that are told, each maybe that of several pairs of classes.
-    pub(crate) fn verdicts(&self) -> &[Verdict]
-        ensures { result.now ≡ self.now.verdicts }
+    pub fn verdicts(&self) -> &[Verdict]
+        ensures verdicts { result.now ≡ self.now.verdicts }
+        ensures right { All (IsOnQuestion self.now.paths) result.now }
     {
         self.judged.values.as_slice()
     }
@@ -173,11 +178,35 @@ impl<'a> ClassTable<'a> {
         &self.judged.values[self.judged.numbers[n] as usize]
     }
 
+    /// What some of the accesses ask.
+    pub fn listed_of(&self, alloc: Global, firsts: &[Placed]) -> Result<Listed, AllocError>
+        requires { All (λ p. IsAt self.now.paths p) firsts.now }
+        ensures listed { IfOk result (λ listed.
+            IsListedIn self.now.places self.now.verdicts listed) }
+        ensures judged { IfOk result (λ listed. AreJudged self.now.paths
+            (entries_in self.now.places self.now.verdicts listed)
+            (asked_among firsts.now self.now.places)) }
+    {
+        let (classes, asked, judged) = (&self.classes, &self.asked, &self.judged);
+        listed_of(alloc, self.paths, classes, asked, judged, firsts)
+    }
+
+    /// The part of the table of all questions that has what is listed.
+    pub fn part<'t>(&'t self, listed: &'t Listed) -> TablePart<'t>
+        requires { IsListedIn self.now.places self.now.verdicts listed.now }
+        ensures paths { result.paths ≡ self.now.paths }
+        ensures verdicts { result.verdicts ≡ self.now.verdicts }
+        ensures entries { result.entries
+            ≡ entries_in self.now.places self.now.verdicts listed.now }
+    {
+        TablePart::of(self.paths, self.places(), self.verdicts(), listed)
+    }
+
     /// All questions of the paths in order, with their verdicts.
     pub fn listed(self, alloc: Global) -> Result<PairTable<'a>, AllocError>
         ensures { IfOk result (λ table. StandsFor table self.entry.paths) }
     {
-        let listed = all_listed(alloc, self.paths, &self.classes, &self.asked, &self.judged)?;
+        let listed = self.listed_of(alloc, self.places())?;
         Ok(PairTable::of(self, listed))
     }
 }

@@ -2,13 +2,14 @@
 ghost use Rattle.std.specs.Prelude.{◌≡◌, ◌↔◌, ◌+◌, ◌<◌, ◌≤◌, ◌^◌, ℕ, length, All, IfOk, Err};
 ghost use Rattle.std.specs.Prelude.{vec_len, vec_capacity};
 ghost use Rattle.conflict_pairs.specs.declared.fault.PairFault as PairFault;
-ghost use Rattle.prog_paths.specs.Questions.{ChangesSingleCells, questions_of};
+ghost use Rattle.prog_paths.specs.Places.{IsAt};
+ghost use Rattle.prog_paths.specs.Questions.{ChangesSingleCells, asked_among, questions_of};
 ghost use Rattle.prog_paths.specs.Limits.{most_questions};
 ghost use Rattle.conflict_pairs.specs.Classed.{AreClassesJudged};
 ghost use Rattle.conflict_pairs.specs.ClassPairs.{IsInRow};
 ghost use Rattle.conflict_pairs.specs.Listed.{AddsQuestions, AreQuestionsListed, HasClass, IsEntered};
 ghost use Rattle.conflict_pairs.specs.Listed.{SpreadsRow};
-ghost use Rattle.conflict_pairs.specs.Pairing.{StandsAt};
+ghost use Rattle.conflict_pairs.specs.Pairing.{StandsAt, place_at};
 ghost use Rattle.conflict_pairs.specs.Table.{StandsFor};
 
 use crate::class_pairs::{ClassPairs, Row};
@@ -20,7 +21,7 @@ use crate::pairing::{PlacePair, number_among};
 use crate::table::PairTable;
 use crate::verdicts::Verdict;
 use prog_check::Path;
-use prog_paths::{Changers, Placed, asks, question_count};
+use prog_paths::{Changers, Placed, asks};
 use std::alloc::{AllocError, Global};
 
 /// Questions by the numbers of their accesses among all, and for each the number of its verdict.
@@ -81,27 +82,39 @@ fn push_questions(
     }
 }
 
-/// All questions between the accesses of the classes, with the numbers of their verdicts, by those
-/// of the pairs of classes.
-pub fn all_listed(
+/// The number among all of an access that has its number there.
+fn number_of(classes: &AccessClasses, place: &Placed) -> usize
+    requires few { length classes.now.places.items ≤ 2 ^ 32 }
+    requires stands { StandsAt classes.now.starts.items classes.now.places.items place.now }
+    ensures within { result < length classes.now.places.items }
+    ensures is { place_at classes.now.places.items result ≡ place.now }
+{
+    number_among(&classes.starts, place)
+}
+
+/// What some of the accesses ask of all, with the numbers of the verdicts, by those of the pairs of
+/// classes.
+pub fn listed_of(
     alloc: Global,
     paths: &[Path],
     classes: &AccessClasses,
     asked: &ClassPairs,
     judged: &Interned<Verdict>,
+    firsts: &[Placed],
 ) -> Result<Listed, AllocError>
-    requires { AreClassesJudged paths.now classes.now asked.now judged.now }
+    requires judged { AreClassesJudged paths.now classes.now asked.now judged.now }
+    requires firsts { All (λ p. IsAt paths.now p) firsts.now }
     ensures { IfOk result (λ listed. AreQuestionsListed paths.now judged.now.values.items
-        classes.now.places.items listed (questions_of paths.now)) }
+        classes.now.places.items listed (asked_among firsts.now classes.now.places.items)) }
 {
     let changers = Changers::of(alloc, &classes.places)?;
-    let room = question_count(paths).saturating_add(classes.places.len());
     let mut listed = Listed {
-        pairs: Vec::with_capacity(alloc, room)?,
-        numbers: Vec::with_capacity(alloc, room)?,
+        pairs: Vec::new(alloc),
+        numbers: Vec::new(alloc),
     };
     let mut answers = vec![in alloc; 0; asked.rows.len()]?;
-    for (number, first) in classes.places.iter().enumerate() {
+    for first in firsts {
+        let number = number_of(classes, first);
         let seconds = changers.of_table(first.access.table);
         listed.pairs.reserve(seconds.len())?;
         listed.numbers.reserve(seconds.len())?;

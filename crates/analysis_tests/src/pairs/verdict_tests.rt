@@ -7,8 +7,8 @@ use crate::pairs::sets::{
 };
 use crate::told::is_told;
 use conflict_pairs::{
-    Chain, ClassTable, PairFault, PairTable, Verdict, changes_single_cells, is_exposed_question,
-    is_question, verdict,
+    Chain, ClassTable, PairFault, PairTable, TablePart, Verdict, changes_single_cells,
+    is_exposed_question, is_question, verdict,
 };
 use example_sets::{MOVE, SMALL_BANK, TRANSFER};
 use order_facts::Node;
@@ -229,6 +229,58 @@ fn questions_are_listed_from_their_classes(rt: HostRuntime) -> Result<(), Fail> 
     let shown = shown_table(&rt, rt.alloc(), table);
     drop(paths);
     is_told(&rt, shown.as_str(), TRANSFERS);
+    Ok(())
+}
+
+/// Each question of a part of a table, with its verdict by the verdict's number, a line each.
+fn push_part(
+    text: &mut String,
+    table: &ClassTable,
+    part: &TablePart<'_>,
+) -> Result<(), AllocError> {
+    for n in 0..part.len() {
+        push_question(text, &part.question(n))?;
+        text.push_str(": ")?;
+        if let Some(verdict) = table.verdicts().get(part.verdict_number(n)) {
+            push_verdict(text, verdict)?;
+        }
+        text.push_str("\n")?;
+    }
+    Ok(())
+}
+
+/// What the first access of some paths asks.
+fn first_part(
+    rt: &impl Abort,
+    alloc: Global,
+    table: Result<ClassTable, PairFault>,
+) -> Result<String, AllocError> {
+    let table = table.expect(rt, "a table");
+    let places = table.places();
+    assert!(rt; !places.is_empty());
+    let listed = table.listed_of(alloc, &places[..1])?;
+    let part = table.part(&listed);
+    assert!(rt; !part.is_empty() && part.verdict(0).can_meet());
+    let mut text = String::new(alloc);
+    push_part(&mut text, &table, &part)?;
+    drop(listed);
+    drop(table);
+    Ok(text)
+}
+
+/// The first two of the transfer set's questions.
+const OF_THE_FIRST: &str = "\
+0 0, 0 1: covered 1 1 [Mine(0), Theirs(0)] [Theirs(0), Mine(0)]
+0 0, 0 3: covered 1 3 [Mine(0), Theirs(1)] [Theirs(1), Mine(0)]
+";
+
+#[test]
+fn what_one_access_asks_is_a_part_of_the_table(rt: HostRuntime) -> Result<(), Fail> {
+    let paths = paths_of(rt.alloc(), TRANSFER)?;
+    let table = class_table_of(&rt, rt.alloc(), &paths);
+    let told = first_part(&rt, rt.alloc(), table);
+    drop(paths);
+    is_told(&rt, told?.as_str(), OF_THE_FIRST);
     Ok(())
 }
 

@@ -1,4 +1,4 @@
-use Rattle.std.proofs.Common.{List, max, ◌<◌, sym, subst, arith}
+use Rattle.std.proofs.Common.{List, max, sym, subst}
 use Rattle.std.specs.Prelude.{All, IfOk}
 use Rattle.std.proofs.Crossing.{crosses, frees}
 use Rattle.std.proofs.lemmas.Result.{IfOk-weaker}
@@ -9,14 +9,14 @@ use Rattle.conflict_pairs.proofs.Collecting.{gathered}
 use Rattle.robust_cert.specs.declared.entries.Told.{Told}
 use Rattle.robust_cert.specs.Sharing.{HasReason}
 use Rattle.analysis_words.specs.declared.entry_counts.EntryCounts.{EntryCounts}
-use Rattle.analysis_words.proofs.Counting.{IsCounted, all_counted, in_each_chunk}
+use Rattle.conflict_pairs.proofs.Parts.{in_each_chunk}
+use Rattle.analysis_words.proofs.Counting.{IsCounted, all_counted}
 use Rattle.analysis_words.proofs.entry_counts.count_parts.Goals as goal
 
 pub collect-requires : goal.collect-requires
 collect-requires g c κs =
     let size = max c.part_len.result 1 in
-    let some : 0 < size = omega arith in
-    let each = in_each_chunk (HasReason c.args.reasons.now) c.args.told.now size some c.requires in (
+    let each = in_each_chunk (HasReason c.args.reasons.now) c.args.told.now size c.requires in (
       search (sendable, crosses) depth 400 fits 500000,
       (
         search (sendable, crosses) depth 400 fits 500000,

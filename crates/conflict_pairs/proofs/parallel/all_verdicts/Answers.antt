@@ -1,5 +1,7 @@
 use Rattle.std.proofs.Common.{◌≡◌, ◌+◌, length, length-append, refl, ap, ◌∙◌, arith}
 use Rattle.std.proofs.lemmas.List.{nil_from_length}
+use Rattle.conflict_pairs.specs.declared.interning.Interned.{Interned}
+use Rattle.conflict_pairs.specs.declared.verdicts.Verdict.{Verdict}
 use Rattle.conflict_pairs.specs.Sharing.{verdicts_in, numbers_in}
 use Rattle.conflict_pairs.proofs.Entries.{nothing-left}
 use Rattle.conflict_pairs.proofs.Parts.{joined-more, numbered-more}
@@ -21,7 +23,7 @@ loop-part-preserved c =
     let added = rw (counted, c.deref-in-loop-part.ensures.value) at c.in_ok-push_numbers.ensures in
     let longer : length new ≡ length old + length part.values.items = ap length c.in_ok-append.ensures.items ∙ length-append old part.values.items in
     record {
-      verdicts = joined-more old new _ _ _ part c.in-Some.ensures.steps.0 c.in_ok-append.ensures.items c.loop-part.invariant.verdicts;
+      verdicts = joined-more (λ (p : Interned Verdict). p.values.items) old new _ _ _ part c.in-Some.ensures.steps.0 c.in_ok-append.ensures.items c.loop-part.invariant.verdicts;
       numbers = numbered-more c.loop-part.numbers.items c.push_numbers.new.numbers.items _ (length old) (length new) _ _ part c.in-Some.ensures.steps.0 added longer c.loop-part.invariant.numbers;
     }
 

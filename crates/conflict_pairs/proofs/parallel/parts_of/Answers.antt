@@ -11,13 +11,13 @@ use Rattle.conflict_pairs.specs.declared.verdicts.Verdict.{Verdict}
 use Rattle.conflict_pairs.specs.Pairing.{IsAskedBetween}
 use Rattle.conflict_pairs.specs.Sharing.{ArePairsJudged}
 use Rattle.conflict_pairs.proofs.Collecting.{gathered}
-use Rattle.conflict_pairs.proofs.Parts.{of_whole, each_chunk_asked}
+use Rattle.conflict_pairs.proofs.Parts.{in_each_chunk, of_whole}
 use Rattle.conflict_pairs.proofs.parallel.parts_of.Goals as goal
 
 pub collect-requires : goal.collect-requires
 collect-requires g c κs =
     let size = max c.part_len.result 1 in
-    let each = each_chunk_asked c.args.paths.now c.args.places.now c.args.pairs.now size c.requires in (
+    let each = in_each_chunk (IsAskedBetween c.args.paths.now c.args.places.now) c.args.pairs.now size c.requires in (
       search (sendable, crosses) depth 400 fits 500000,
       (
         search (sendable, crosses) depth 400 fits 500000,

@@ -1,11 +1,11 @@
 use Rattle.std.proofs.Common.{length, sym, ap, ◌∙◌}
 use Rattle.conflict_pairs.specs.Table.{Table}
 use Rattle.conflict_pairs.proofs.Paired.{pairs-length}
-use Rattle.conflict_pairs.proofs.table.PairTable.len.Goals as goal
+use Rattle.conflict_pairs.proofs.table.TablePart.len.Goals as goal
 
 pub returns : goal.returns
 returns c =
     let inside = c.self.inside in
-    c.len.ensures ∙ inside.listed.pairs.ok.0
-    ∙ sym (pairs-length inside.classes.verdicts inside.classes.places inside.listed.pairs.items inside.listed.numbers.items c.self.invariant.one_each)
+    c.len.ensures ∙ inside.listed.now.pairs.ok.0
+    ∙ sym (pairs-length inside.verdicts.now inside.places.now inside.listed.now.pairs.items inside.listed.now.numbers.items c.self.invariant.one_each)
     ∙ ap (λ (t : Table). length t.entries) c.self.view_is
