@@ -18,7 +18,7 @@ use Rattle.prog_paths.specs.Listing.{IsAskedOf}
 use Rattle.conflict_pairs.specs.declared.verdicts.Verdict.{Verdict}
 use Rattle.conflict_pairs.specs.declared.verdicts.Verdict.TheVariants.{Apart, Covered, Exposed}
 use Rattle.conflict_pairs.specs.Interning.{IsServed}
-use Rattle.conflict_pairs.specs.Table.{Judged, Table, IsOnQuestion}
+use Rattle.conflict_pairs.specs.Table.{Judged, IsOnQuestion}
 use Rattle.conflict_pairs.specs.Verdicts.{IsRight, is_exposed}
 use Rattle.conflict_pairs.proofs.Serving.{served-within}
 use Rattle.dep_graph.specs.Counting.{IsCountOf, none, counted, passed}
@@ -28,8 +28,7 @@ use Rattle.robust_cert.specs.declared.entries.Told.{Told}
 use Rattle.robust_cert.specs.Accepted.{body_size}
 use Rattle.robust_cert.specs.Ranges.{IsSmall}
 use Rattle.robust_cert.specs.Sharing.{Entry, entry_with, reason_at, entry_told, entries_told, HasReason}
-use Rattle.si_repair.specs.Certificates.{told_question, told_by, told_of, reason_of, told_numbered, Gives, IsOfFew, AskedFits, VerdictFits}
-use Rattle.si_repair.proofs.Certificates.{IsEntryOf, entries_stand}
+use Rattle.si_repair.specs.Certificates.{told_question, told_by, told_of, reason_of, told_numbered, Gives, AreOfFew, AskedFits, VerdictFits}
 use Rattle.si_repair.proofs.Smallness.{AreEndsSmall, question-small, falls-small, chains-small, pairs-below, access-below}
 
 -- ---- numbers
@@ -84,13 +83,13 @@ verdict_fits paths q (Covered m t chains) few asked right =
     )
 verdict_fits paths q (Exposed sample) few asked right = tt
 
-pub entry_fits : (t : Table) → IsOfFew t → (n : ℕ) (e : Judged) → slice_get t.entries n ≡ Some e → AskedFits e.question
-entry_fits t f n e at =
-    let stands = subst (λ (d : Judged). IsEntryOf f.paths d) (get_or_from_slice_get t.entries n e e at) (entries_stand t f.paths f.stands n e (slice_get_within t.entries n e at)) in
-    question_fits f.paths e.question f.few stands.asked
+pub entry_fits : (es : List Judged) → AreOfFew es → (n : ℕ) (e : Judged) → slice_get es n ≡ Some e → AskedFits e.question
+entry_fits es f n e at =
+    let asked = subst (λ (d : Judged). IsAskedOf f.paths d.question) (get_or_from_slice_get es n e e at) (f.asked n e (slice_get_within es n e at)) in
+    question_fits f.paths e.question f.few asked
 
-pub verdicts_fit : (t : Table) → IsOfFew t → All VerdictFits t.verdicts
-verdicts_fit t f = All-weaker (IsOnQuestion f.paths) VerdictFits (λ v of_question. verdict_fits f.paths of_question.question v f.few of_question.asked of_question.right) t.verdicts f.stands.verdicts
+pub verdicts_fit : (paths : List Path) (vs : List Verdict) → AreFew paths → All (IsOnQuestion paths) vs → All VerdictFits vs
+verdicts_fit paths vs few on = All-weaker (IsOnQuestion paths) VerdictFits (λ v of_question. verdict_fits paths of_question.question v few of_question.asked of_question.right) vs on
 
 -- ---- one more entry
 

@@ -3,9 +3,11 @@ pub mod Parts
 pub mod Certificates
 pub mod Leaving
 pub mod Accepting
+pub mod Found
 pub mod Analysing
 pub mod Smallness
 pub mod Fitting
+pub mod Telling
 pub mod Searching
 pub mod Closings
 pub mod Turns

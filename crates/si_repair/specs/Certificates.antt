@@ -5,11 +5,14 @@ use Rattle.order_facts.specs.declared.steps.Node.{Node}
 use Rattle.order_facts.specs.Chain.{IsTight}
 use Rattle.prog_check.specs.declared.path.Path.{Path}
 use Rattle.prog_paths.specs.Few.{AreFew}
+use Rattle.prog_paths.specs.Listing.{IsAskedOf}
+use Rattle.prog_paths.specs.Questions.{questions_of}
 use Rattle.prog_paths.specs.declared.accesses.questions.Question.{Question as Asked}
 use Rattle.conflict_pairs.specs.declared.verdicts.Verdict.{Verdict}
 use Rattle.conflict_pairs.specs.declared.verdicts.Verdict.TheVariants.{Apart, Covered, Exposed}
 use Rattle.conflict_pairs.specs.Interning.{AreInterned}
-use Rattle.conflict_pairs.specs.Table.{Judged, Table, StandsFor}
+use Rattle.conflict_pairs.specs.Listed.{AreJudged}
+use Rattle.conflict_pairs.specs.Table.{Judged}
 use Rattle.conflict_pairs.specs.Verdicts.{is_exposed}
 use Rattle.robust_cert.specs.declared.certificate.EntryQuestion.{EntryQuestion}
 use Rattle.robust_cert.specs.declared.entries.Reason.{Reason}
@@ -17,7 +20,7 @@ use Rattle.robust_cert.specs.declared.entries.Reason as reason
 use Rattle.robust_cert.specs.declared.entries.Told.{Told}
 use Rattle.robust_cert.specs.Ranges.{IsSmall, IsOfSmall}
 use Rattle.robust_cert.specs.Json.{QuestionFits}
-use Rattle.robust_cert.specs.Sharing.{Entry, entry_with}
+use Rattle.robust_cert.specs.Sharing.{Entry, HasReason, entries_told, entry_with}
 use Rattle.si_repair.specs.Findings.{AreCounted}
 
 -- ---- entries
@@ -54,6 +57,19 @@ AreGiven = AreInterned (λ reason. Unit {0}) Gives
 abbrev pub told_numbered : Asked → Verdict → ℕ → List Told
 told_numbered q v n = if is_exposed v then [] else record { question = told_question q; reason = n } ∷ []
 
+-- what is told of some questions with right verdicts on them, by the numbers of reasons
+pub record IsToldOf (paths : List Path) (reasons : List Reason) (qs : List Asked) (told : List Told) : Type 0 where
+  pub judged : List Judged
+  pub are : AreJudged paths judged qs
+  pub is : entries_told reasons told ≡ told_of judged
+  pub within : All (HasReason reasons) told
+
+-- these entries are what is told of all questions of the paths
+pub record AreEntriesOf (paths : List Path) (entries : List Entry) : Type 0 where
+  pub judged : List Judged
+  pub are : AreJudged paths judged (questions_of paths)
+  pub is : entries ≡ told_of judged
+
 -- ---- levels
 
 -- a level for each node, which counts the nodes that lead to it
@@ -63,11 +79,11 @@ pub record AreLevels (paths : List Path) (levels : List ℕ) : Type 0 where
 
 -- ---- numbers
 
--- the table of few paths, so that its numbers are small
-pub record IsOfFew (t : Table) : Type 0 where
+-- questions of few paths, so that their numbers are small
+pub record AreOfFew (entries : List Judged) : Type 0 where
   pub paths : List Path
-  pub stands : StandsFor t paths
   pub few : AreFew paths
+  pub asked : All (λ e. IsAskedOf paths e.question) entries
 
 -- the numbers of a question are small
 abbrev pub AskedFits : Asked → Type 0

@@ -12,3 +12,4 @@ pub mod Planning
 pub mod Promotion
 pub mod Repairing
 pub mod Texts
+pub mod Telling

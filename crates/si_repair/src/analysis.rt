@@ -1,37 +1,79 @@
 //! The analysis of a set.
-ghost use Rattle.std.specs.Prelude.{◌≡◌, ◌≤◌, length, IfOk, OnOk, Err};
+ghost use Rattle.std.specs.Prelude.{◌≡◌, ◌≤◌, length, IfOk, MatchResult, OnOk, Err};
 ghost use Rattle.prog_tree.specs.Tree.{draft_tree};
 ghost use Rattle.prog_check.specs.Paths.{paths_of};
 ghost use Rattle.prog_paths.specs.Questions.{questions_of};
 ghost use Rattle.prog_paths.specs.Limits.{most_questions};
 ghost use Rattle.prog_paths.specs.Few.{AreFew};
 ghost use Rattle.si_repair.specs.declared.fault.AnalyseFault as AnalyseFault;
+ghost use Rattle.prog_paths.specs.StaticGraph.{IsDangerous};
+ghost use Rattle.dep_graph.specs.Danger.{IsLeastDanger};
+ghost use Rattle.si_repair.specs.Certificates.{AreLevels};
 ghost use Rattle.si_repair.specs.Findings.{AsksFew, AsksTooMany, IsRightFinding};
 
 use crate::certificate::{certificate_of, levels_of};
+use crate::entries::{entries_of, entries_of_par};
 use crate::fault::AnalyseFault;
 use crate::finding::Finding;
 use conflict_pairs::{ClassTable, class_table, class_table_par};
-use dep_graph::Graph;
+use dep_graph::{Danger, Graph};
 use prog_check::{Path, ProgramSet};
 use prog_paths::paths;
 use std::alloc::{AllocError, Global};
 use std::thread::Threads;
 
+/// The levels of the nodes of a table, or its least dangerous structure.
+fn levels_or_danger(
+    alloc: Global,
+    table: &ClassTable<'_>,
+) -> Result<Result<Vec<u32>, Danger>, AllocError>
+    requires { AreFew table.now.paths }
+    ensures { IfOk result (λ found. MatchResult found
+        (λ levels. AreLevels table.now.paths levels.items × ¬ IsDangerous table.now.paths)
+        (IsLeastDanger table.now.paths)) }
+{
+    let graph = Graph::of_classes(alloc, table)?;
+    match graph.danger()? {
+        Some(danger) => Ok(Err(danger)),
+        None => Ok(Ok(levels_of(alloc, &graph)?)),
+    }
+}
+
 /// What the answers to all questions of some paths come to.
-fn finding_of(alloc: Global, paths: &[Path], table: ClassTable<'_>) -> Result<Finding, AllocError>
-    requires paths { table.paths ≡ paths.now }
+fn finding_of(alloc: Global, paths: &[Path], table: &ClassTable<'_>) -> Result<Finding, AllocError>
+    requires paths { table.now.paths ≡ paths.now }
     requires few { AreFew paths.now }
     requires in_bounds { length (questions_of paths.now) ≤ most_questions }
     ensures { IfOk result (IsRightFinding paths.now) }
 {
-    let graph = Graph::of_classes(alloc, &table)?;
-    if let Some(danger) = graph.danger()? {
-        return Ok(Finding::Refused(danger));
+    match levels_or_danger(alloc, table)? {
+        Err(danger) => Ok(Finding::Refused(danger)),
+        Ok(levels) => {
+            let entries = entries_of(alloc, table)?;
+            Ok(Finding::Robust(certificate_of(alloc, paths, entries, levels)?))
+        }
     }
-    let levels = levels_of(alloc, &graph)?;
-    let listed = table.listed(alloc)?;
-    Ok(Finding::Robust(certificate_of(alloc, paths, &listed, levels)?))
+}
+
+/// The same, by several threads where there are many questions.
+fn finding_of_par(
+    rt: &(impl Threads + Sync),
+    alloc: Global,
+    paths: &[Path],
+    table: &ClassTable<'_>,
+) -> Result<Finding, AllocError>
+    requires paths { table.now.paths ≡ paths.now }
+    requires few { AreFew paths.now }
+    requires in_bounds { length (questions_of paths.now) ≤ most_questions }
+    ensures { IfOk result (IsRightFinding paths.now) }
+{
+    match levels_or_danger(alloc, table)? {
+        Err(danger) => Ok(Finding::Refused(danger)),
+        Ok(levels) => {
+            let entries = entries_of_par(rt, alloc, table)?;
+            Ok(Finding::Robust(certificate_of(alloc, paths, entries, levels)?))
+        }
+    }
 }
 
 /// The certificate that a set is robust, or its least dangerous structure.
@@ -43,7 +85,7 @@ pub fn certify(alloc: Global, set: &ProgramSet) -> Result<Finding, AnalyseFault>
 {
     let paths = paths(alloc, set)?;
     let table = class_table(alloc, &paths)?;
-    let finding = finding_of(alloc, &paths, table)?;
+    let finding = finding_of(alloc, &paths, &table)?;
     Ok(finding)
 }
 
@@ -60,6 +102,6 @@ pub fn certify_par(
 {
     let paths = paths(alloc, set)?;
     let table = class_table_par(rt, alloc, &paths)?;
-    let finding = finding_of(alloc, &paths, table)?;
+    let finding = finding_of_par(rt, alloc, &paths, &table)?;
     Ok(finding)
 }

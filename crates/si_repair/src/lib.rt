@@ -4,6 +4,7 @@
 
 mod analysis;
 mod certificate;
+mod entries;
 mod fault;
 mod finding;
 mod plans;

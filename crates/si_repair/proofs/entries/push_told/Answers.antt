@@ -1,6 +1,6 @@
 use Rattle.std.proofs.Common.{sym, ◌∙◌}
 use Rattle.si_repair.proofs.Fitting.{numbered-none, numbered-one}
-use Rattle.si_repair.proofs.certificate.push_told.Goals as goal
+use Rattle.si_repair.proofs.entries.push_told.Goals as goal
 
 pub returns-then-is_exposed-clause-added : goal.returns-then-is_exposed-clause-added
 returns-then-is_exposed-clause-added c =
