@@ -5,10 +5,10 @@ ghost use Rattle.std.specs.List.{sum_by};
 ghost use Rattle.robust_cert.specs.Sharing.{entries_told, reason_at, HasReason};
 ghost use Rattle.analysis_words.specs.Robust.{apart_count, is_apart};
 
-use crate::limits::{EQUAL_PARTS, MIN_ENTRIES_OF_THREADS};
+use conflict_pairs::EQUAL_PARTS;
 use prog_check::Path;
 use rayon::prelude::*;
-use robust_cert::{Entries, EntryQuestion, Reason, Told};
+use robust_cert::{Entries, EntryQuestion, MIN_ENTRIES_OF_THREADS, Reason, Told};
 use std::alloc::{AllocError, Global};
 use std::thread::Threads;
 

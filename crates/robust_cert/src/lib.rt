@@ -24,6 +24,7 @@ pub use checking::checker::verify;
 pub use entries::{Entries, Reason, Told};
 pub use fault::{CertFault, JsonFault};
 pub use laws::law_of_acceptance;
+pub use limits::MIN_ENTRIES_OF_THREADS;
 pub use robust::RobustSet;
 pub use text::pieces::CertificateText;
 pub use text::reading::from_json;

@@ -7,6 +7,7 @@ ghost use Rattle.robust_cert.specs.Pieces.{text_left};
 
 use crate::certificate::{Certificate, EntryQuestion};
 use crate::entries::{Reason, Told};
+use crate::limits::MIN_ENTRIES_OF_THREADS;
 use crate::text::heads::Heads;
 use crate::text::middles::Middles;
 use crate::text::next_entries::{put_entries, room_for};
@@ -25,9 +26,6 @@ const PIECE_BYTES: usize = 65_536;
 const SLATES: usize = 8;
 
 const SLATE_BYTES: usize = 524_288;
-
-// For fewer entries no thread is worth its while.
-const MIN_ENTRIES_OF_THREADS: usize = 16_384;
 
 // Each number of a question has 32 bits.
 fn question_fits(question: EntryQuestion)

@@ -2,8 +2,8 @@
 //! them takes no memory.
 
 ghost use Rattle.std.specs.Prelude.{◌≡◌, ◌↔◌, ◌+◌, ◌<◌, ◌≤◌, ◌++◌, ℕ, All, IfOk, IsTrue, length};
-ghost use Rattle.std.specs.Prelude.{string_bytes, string_capacity};
-ghost use Rattle.robust_cert.specs.Pieces.{next_entries_text};
+ghost use Rattle.std.specs.Prelude.{string_bytes, string_capacity, take};
+ghost use Rattle.robust_cert.specs.Pieces.{entries_room, next_entries_text};
 ghost use Rattle.robust_cert.specs.Sharing.{HasReason, entries_told};
 ghost use Rattle.robust_cert.specs.Slates.{CanDealOut, CanTake, CanWrite, IsWide, KeepsWidth};
 ghost use Rattle.robust_cert.specs.Slates.{slates_entries, slates_left, slates_text};
@@ -55,6 +55,8 @@ impl<'c> Slate<'c> {
         ensures capacity { string_capacity self.new.text ≡ string_capacity self.old.text }
         ensures within { All (HasReason reasons.now) result.now }
         ensures fewer { 0 < length told.now → length result.now < length told.now }
+        ensures full { 0 < length result.now → string_capacity self.old.text
+            < entries_room reasons.now (take (length self.new.entries.now + 1) told.now) }
     {
         let count = fitting(told, reasons, tails, self.text.capacity());
         let (first, behind) = told.split_at(count);
