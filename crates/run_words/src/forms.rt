@@ -30,10 +30,8 @@ pub fn may_begin(kind: PartKind, first: &str) -> bool {
 
 /// Whether a line of a script that begins with a word is an event, or several: all but rows are.
 pub fn is_event(first: &[u8]) -> bool {
-    matches!(
-        first,
-        b"begin" | b"begin-at" | b"step" | b"commit" | b"abort" | b"vacuum"
-    )
+    let words = first_words(PartKind::Script);
+    first != "row".as_bytes() && (&*words).iter().any(|word| word.as_bytes() == first)
 }
 
 /// The command that reads lines which begin with a word, of such as not every list has.
