@@ -22,6 +22,9 @@ fn cut_word(line: &[u8]) -> (&[u8], &[u8]) {
 // How many steps are done by a line with this behind its `step`.
 fn step_count(words: &[u8]) -> usize {
     let (_instance, rest) = cut_word(words);
+    if rest.is_empty() {
+        return 1;
+    }
     let (times, _) = cut_word(rest);
     unsigned(times).unwrap_or(1) as usize
 }
