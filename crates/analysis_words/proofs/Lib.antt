@@ -1,6 +1,7 @@
 mod AlongWay
 mod AskedEntry
 mod Counting
+mod Counts
 mod Listing
 mod NoCertificate
 mod Ranges

@@ -1,3 +1,4 @@
+pub mod Counts
 pub mod Edges
 pub mod Helping
 pub mod Instances

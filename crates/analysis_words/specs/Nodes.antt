@@ -51,9 +51,12 @@ abbrev pub program_of : Sight → (node : ℕ) → Option ℕ
 program_of sight node = option_map (λ (path : Path). path.program) (slice_get sight.paths node)
 
 -- the access of a number of a node
+abbrev pub access_at : List Path → (node access : ℕ) → Option Access
+access_at paths node access =
+    option_and_then (λ (path : Path). slice_get path.accesses access) (slice_get paths node)
+
 abbrev pub access_of : Sight → (node access : ℕ) → Option Access
-access_of sight node access =
-    option_and_then (λ (path : Path). slice_get path.accesses access) (slice_get sight.paths node)
+access_of sight = access_at sight.paths
 
 -- what is said of an access that is sure or not: one that is not may be made in many turns, or in none
 abbrev pub turns_by : (sure : Bool) → List ℕ

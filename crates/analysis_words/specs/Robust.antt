@@ -1,26 +1,18 @@
 -- What the words of a certificate have to say.
-use Rattle.std.specs.Prelude.{ℕ, ◌≡◌, ◌-◌, ◌+◌, ◌⊎◌, Bool, true, false, List, [], ◌++◌, codes, filter, length, min}
+use Rattle.std.specs.Prelude.{ℕ, ◌≡◌, ◌-◌, ◌+◌, List, Option, [], ◌++◌, codes, length, min, MatchOption}
 use Rattle.std.specs.Fmt.{decimal}
 use Rattle.std.specs.List.{range_with_len}
 use Rattle.prog_check.specs.declared.path.Path.{Path}
 use Rattle.prog_paths.specs.Questions.{questions_of}
 use Rattle.prog_paths.specs.Limits.{most_questions}
 use Rattle.robust_cert.specs.declared.certificate.Certificate.{Certificate}
-use Rattle.robust_cert.specs.declared.entries.Reason.{Reason}
-use Rattle.robust_cert.specs.declared.entries.Reason.TheVariants.{Apart, Cover}
 use Rattle.robust_cert.specs.Sharing.{Entry}
+use Rattle.analysis_words.specs.Counts.{IsMost, apart_count, covers_in}
 use Rattle.analysis_words.specs.Limits.{most_levels}
-use Rattle.analysis_words.specs.Nodes.{Sight}
+use Rattle.analysis_words.specs.Nodes.{IsAccessText, Sight}
+use Rattle.analysis_words.specs.declared.entry_counts.Covering.{Covering}
 use Rattle.analysis_words.specs.Saying.{level_list}
 use Rattle.analysis_words.specs.SharedWords.{more_text}
-
-abbrev pub is_apart : Reason → Bool
-is_apart (Apart chain) = true
-is_apart (Cover mine theirs chains) = false
-
--- of how many questions the two accesses never meet
-abbrev pub apart_count : List Entry → ℕ
-apart_count entries = length (filter (λ e. is_apart e.reason) entries)
 
 abbrev pub reasons_text : (apart covered : ℕ) → List ℕ
 reasons_text apart covered = decimal apart ++ (codes " never do, " ++ (decimal covered ++ codes " clash where they do"))
@@ -36,12 +28,17 @@ levels_text sight certificate =
     level_list sight certificate (range_with_len 0 (min (length sight.paths) most_levels))
     ++ more_text (length sight.paths - most_levels)
 
--- how many questions are covered by the access that covers most, and which it is; nothing where none covers
-abbrev pub IsMostText : (text : List ℕ) → Type 0
-IsMostText text =
-    (text ≡ [])
-    ⊎ ((count : ℕ) × (access : List ℕ)
-    × (text ≡ codes " (" ++ (decimal count ++ (codes " of them by " ++ (access ++ codes ")")))))
+-- in how many covers an access is one of the two, and which it is
+abbrev pub IsCoveringText : Sight → Covering → (text : List ℕ) → Type 0
+IsCoveringText sight most text =
+    (access : List ℕ) × IsAccessText sight most.node most.access access
+    × (text ≡ codes " (" ++ (decimal most.count ++ (codes " of them by " ++ (access ++ codes ")"))))
+
+-- the same of the first access that is in most covers; nothing where none is in one
+abbrev pub IsMostText : Sight → List Entry → (text : List ℕ) → Type 0
+IsMostText sight entries text =
+    (most : Option Covering) × IsMost (covers_in sight.paths entries) most
+    × MatchOption most (text ≡ []) (λ covering. IsCoveringText sight covering text)
 
 -- how many questions the paths ask, no further than one above the limit
 abbrev pub asked_count : List Path → ℕ
@@ -57,6 +54,6 @@ questions_text certificate asked most =
 -- the words have the line of all questions that the paths ask, and that of the levels
 abbrev pub SaysRobust : Sight → Certificate → (words : List ℕ) → Type 0
 SaysRobust sight certificate words =
-    (most : List ℕ) × IsMostText most
+    (most : List ℕ) × IsMostText sight certificate.entries most
     × (words ≡ questions_text certificate (asked_count sight.paths) most
     ++ (codes "levels: " ++ (levels_text sight certificate ++ codes "\n")))

@@ -1,9 +1,12 @@
 //! The entries of a certificate, counted in one walk, in parts that several threads walk where
 //! there are many.
-ghost use Rattle.std.specs.Prelude.{◌≡◌, ◌+◌, ◌<◌, All, IfOk, OnOk};
-ghost use Rattle.std.specs.List.{sum_by};
+ghost use Rattle.std.specs.Prelude.{◌≡◌, ◌==◌, ◌&&◌, ◌+◌, ◌<◌, [], ℕ, Option, All, IfOk, OnOk};
+ghost use Rattle.std.specs.Prelude.{option_map, slice_get};
 ghost use Rattle.robust_cert.specs.Sharing.{entries_told, reason_at, HasReason};
-ghost use Rattle.analysis_words.specs.Robust.{apart_count, is_apart};
+ghost use Rattle.analysis_words.specs.Counts.{count_at, is_apart, is_in_cover, most_count};
+ghost use Rattle.analysis_words.specs.Counts.{number_at, number_in, one_if};
+ghost use Rattle.analysis_words.specs.Counts.{AddsCounts, AreCountsInParts, AreCountsOf};
+ghost use Rattle.analysis_words.specs.Counts.{CountsCovers, IsBefore, IsMost, IsMostAmong, IsSumOf};
 
 use conflict_pairs::EQUAL_PARTS;
 use prog_check::Path;
@@ -45,7 +48,9 @@ fn reason_of<'r>(told: &Told, reasons: &'r [Reason]) -> &'r Reason
 }
 
 // For each access of each node the number 0.
-fn no_covers(alloc: Global, nodes: &[Path]) -> Result<Vec<Vec<u64>>, AllocError> {
+fn no_covers(alloc: Global, nodes: &[Path]) -> Result<Vec<Vec<u64>>, AllocError>
+    ensures { IfOk result (λ covers. CountsCovers nodes.now [] covers.items) }
+{
     let mut covers = Vec::with_capacity(alloc, nodes.len())?;
     for node in nodes {
         covers.push(vec![in alloc; 0; node.accesses.len()]?)?;
@@ -53,28 +58,44 @@ fn no_covers(alloc: Global, nodes: &[Path]) -> Result<Vec<Vec<u64>>, AllocError>
     Ok(covers)
 }
 
-// Notes one cover more of an access.
-fn note_access(covers: &mut [Vec<u64>], node: u32, access: u32) {
-    let Some(of_node) = covers.get_mut(node as usize) else {
-        return;
-    };
-    if let Some(count) = of_node.get_mut(access as usize) {
-        *count = count.saturating_add(1);
+// Notes one cover more of an access. More than memory can hold are answered as want of it.
+fn note_access(covers: &mut Vec<Vec<u64>>, node: usize, access: usize) -> Result<(), AllocError>
+    ensures { OnOk result (AddsCounts (λ x a. one_if (node == x && access == a))
+        covers.old.items covers.new.items) }
+{
+    if node >= covers.len() || access >= covers[node].len() {
+        return Ok(());
     }
+    let Some(count) = covers[node][access].checked_add(1) else {
+        return Err(AllocError);
+    };
+    covers[node][access] = count;
+    Ok(())
 }
 
 // Notes one cover more of the two accesses of a reason, if it is one.
-fn note_cover(covers: &mut [Vec<u64>], question: EntryQuestion, reason: &Reason) {
+fn note_cover(
+    covers: &mut Vec<Vec<u64>>,
+    question: EntryQuestion,
+    reason: &Reason,
+) -> Result<(), AllocError>
+    ensures { OnOk result (AddsCounts
+        (λ x a. one_if (is_in_cover x a question reason.now))
+        covers.old.items covers.new.items) }
+{
     let Reason::Cover { mine, theirs, .. } = reason else {
-        return;
+        return Ok(());
     };
-    note_access(covers, question.x, *mine);
+    note_access(covers, question.x as usize, *mine as usize)?;
     if question.x != question.y || *mine != *theirs {
-        note_access(covers, question.y, *theirs);
+        note_access(covers, question.y as usize, *theirs as usize)?;
     }
+    Ok(())
 }
 
-fn count_of(covering: Option<Covering>) -> u64 {
+fn count_of(covering: Option<Covering>) -> u64
+    ensures { result ≡ most_count covering }
+{
     match covering {
         Some(covering) => covering.count,
         None => 0,
@@ -82,7 +103,11 @@ fn count_of(covering: Option<Covering>) -> u64 {
 }
 
 // The first access of a node with the most covers, if it has more than the most before it.
-fn most_of_node(node: usize, covers: &[u64], before: Option<Covering>) -> Option<Covering> {
+fn most_of_node(node: usize, covers: &[u64], before: Option<Covering>) -> Option<Covering>
+    ensures { (count : (x a : ℕ) → Option ℕ) → ((a : ℕ) → count node a ≡ slice_get covers.now a)
+        → IsMostAmong count (λ x a. IsBefore x a node 0) before
+        → IsMostAmong count (λ x a. IsBefore x a (node + 1) 0) result }
+{
     let mut most = before;
     for (access, count) in covers.iter().enumerate() {
         if *count > count_of(most) {
@@ -96,22 +121,32 @@ fn most_of_node(node: usize, covers: &[u64], before: Option<Covering>) -> Option
     most
 }
 
-// Adds counts to those of the same accesses.
-fn add_counts(all: &mut [u64], more: &[u64]) {
+// Adds counts to those of the same accesses. More than memory can hold are answered as want of it.
+fn add_counts(all: &mut Vec<u64>, more: &[u64]) -> Result<(), AllocError>
+    ensures { OnOk result ((a : ℕ) → slice_get all.new.items a
+        ≡ option_map (λ n. n + number_at more.now a) (slice_get all.old.items a)) }
+{
     for (access, count) in more.iter().enumerate() {
-        if let Some(sum) = all.get_mut(access) {
-            *sum = sum.saturating_add(*count);
+        if access < all.len() {
+            let Some(sum) = all[access].checked_add(*count) else {
+                return Err(AllocError);
+            };
+            all[access] = sum;
         }
     }
+    Ok(())
 }
 
 // Adds the covers of some entries to those of others.
-fn add_covers(all: &mut [Vec<u64>], more: &[Vec<u64>]) {
+fn add_covers(all: &mut Vec<Vec<u64>>, more: &[Vec<u64>]) -> Result<(), AllocError>
+    ensures { OnOk result (AddsCounts (number_in more.now) all.old.items all.new.items) }
+{
     for (node, counts) in more.iter().enumerate() {
-        if let Some(sums) = all.get_mut(node) {
-            add_counts(sums, counts);
+        if node < all.len() {
+            add_counts(&mut all[node], counts)?;
         }
     }
+    Ok(())
 }
 
 // How many entries a part has, of so many.
@@ -129,8 +164,7 @@ fn count(
     reasons: &[Reason],
 ) -> Result<EntryCounts, AllocError>
     requires { All (HasReason reasons.now) told.now }
-    ensures { IfOk result (λ counts. counts.apart
-        ≡ apart_count (entries_told reasons.now told.now)) }
+    ensures { IfOk result (AreCountsOf nodes.now (entries_told reasons.now told.now)) }
 {
     let mut covers = no_covers(alloc, nodes)?;
     let mut apart = 0;
@@ -139,7 +173,7 @@ fn count(
         if is_apart(reason) {
             apart += 1;
         }
-        note_cover(&mut covers, next.question, reason);
+        note_cover(&mut covers, next.question, reason)?;
     }
     Ok(EntryCounts { apart, covers })
 }
@@ -153,15 +187,15 @@ fn count_parts(
     reasons: &[Reason],
 ) -> Result<Vec<EntryCounts>, AllocError>
     requires { All (HasReason reasons.now) told.now }
-    ensures { IfOk result (λ parts. sum_by (λ p. p.apart) parts.items
-        ≡ apart_count (entries_told reasons.now told.now)) }
+    ensures { IfOk result
+        (AreCountsInParts nodes.now (entries_told reasons.now told.now)) }
 {
     told.par_chunks(part_len(told.len()))
         .map(
             |part: &[Told]| -> Result<EntryCounts, AllocError>
                 requires { All (HasReason reasons.now) part.now }
-                ensures { IfOk result (λ counts. counts.apart
-                    ≡ apart_count (entries_told reasons.entry.now part.now)) }
+                ensures { IfOk result
+                    (AreCountsOf nodes.entry.now (entries_told reasons.entry.now part.now)) }
             { count(alloc, nodes, part, reasons) },
         )
         .collect::<Result<Vec<EntryCounts>, AllocError>>(rt, alloc)?
@@ -175,7 +209,7 @@ impl EntryCounts {
         nodes: &[Path],
         entries: &Entries,
     ) -> Result<Self, AllocError>
-        ensures { IfOk result (λ counts. counts.apart ≡ apart_count entries.now) }
+        ensures { IfOk result (AreCountsOf nodes.now entries.now) }
     {
         let (told, reasons) = entries.parts();
         let parts = count_parts(rt, alloc, nodes, told, reasons)?;
@@ -184,7 +218,7 @@ impl EntryCounts {
 
     // The counts of all parts.
     fn of_all(alloc: Global, nodes: &[Path], parts: &[EntryCounts]) -> Result<Self, AllocError>
-        ensures { IfOk result (λ counts. counts.apart ≡ sum_by (λ p. p.apart) parts.now) }
+        ensures { IfOk result (IsSumOf nodes.now parts.now) }
     {
         let mut counts = EntryCounts {
             apart: 0,
@@ -198,18 +232,22 @@ impl EntryCounts {
 
     // Adds the counts of other entries. More than memory can hold are answered as want of it.
     fn add(&mut self, part: &EntryCounts) -> Result<(), AllocError>
-        ensures { OnOk result (self.new.apart ≡ self.old.apart + part.now.apart) }
+        ensures apart { OnOk result (self.new.apart ≡ self.old.apart + part.now.apart) }
+        ensures covers { OnOk result (AddsCounts (number_in part.now.covers.items)
+            self.old.covers.items self.new.covers.items) }
     {
         let Some(apart) = self.apart.checked_add(part.apart) else {
             return Err(AllocError);
         };
         self.apart = apart;
-        add_covers(&mut self.covers, &part.covers);
+        add_covers(&mut self.covers, &part.covers)?;
         Ok(())
     }
 
     /// The first access that is one of the two of most covers; none where there is no cover.
-    pub fn most_covering(&self) -> Option<Covering> {
+    pub fn most_covering(&self) -> Option<Covering>
+        ensures { IsMost (count_at self.now.covers.items) result }
+    {
         let mut most = None;
         for (node, of_node) in self.covers.iter().enumerate() {
             most = most_of_node(node, of_node, most);

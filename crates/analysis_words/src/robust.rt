@@ -2,7 +2,8 @@
 ghost use Rattle.std.specs.Prelude.{◌≡◌, IfOk, string_bytes};
 ghost use Rattle.std.specs.List.{range_with_len};
 ghost use Rattle.analysis_words.specs.Nodes.{seen, sight_of};
-ghost use Rattle.analysis_words.specs.Robust.{apart_count, entries_text, IsMostText};
+ghost use Rattle.analysis_words.specs.Counts.{apart_count, AreCountsOf};
+ghost use Rattle.analysis_words.specs.Robust.{entries_text, IsCoveringText, IsMostText};
 ghost use Rattle.analysis_words.specs.Robust.{levels_text, questions_text, reasons_text};
 ghost use Rattle.analysis_words.specs.Robust.{SaysRobust};
 
@@ -14,7 +15,7 @@ use crate::shown::{Shown, access_text};
 use crate::shown_set::ShownSet;
 use prog_check::ProgramSet;
 use prog_paths::question_count;
-use robust_cert::Certificate;
+use robust_cert::{Certificate, Entries};
 use std::alloc::{AllocError, Global};
 use std::thread::Threads;
 
@@ -38,28 +39,34 @@ fn entries_text(
 }
 
 // How many covers an access takes part in, and which it is.
-fn covering_text(alloc: Global, count: u64, access: &str) -> Result<String, AllocError>
-    ensures { IfOk result (λ text. IsMostText (string_bytes text)) }
+fn covering_text(alloc: Global, shown: Shown<'_>, covering: Covering) -> Result<String, AllocError>
+    ensures { IfOk result (λ text.
+        IsCoveringText (seen shown.entry) covering (string_bytes text)) }
 {
+    let Covering {
+        node,
+        access,
+        count,
+    } = covering;
+    let access = access_text(alloc, shown, node, access)?;
     format!(in alloc; " ({count} of them by {access})")
 }
 
 // The access that takes part in most covers.
-fn most_text(alloc: Global, shown: Shown<'_>, counts: &EntryCounts) -> Result<String, AllocError>
-    ensures { IfOk result (λ text. IsMostText (string_bytes text)) }
+fn most_text(
+    alloc: Global,
+    shown: Shown<'_>,
+    entries: &Entries,
+    counts: &EntryCounts,
+) -> Result<String, AllocError>
+    requires { AreCountsOf shown.paths.now entries.now counts.now }
+    ensures { IfOk result (λ text.
+        IsMostText (seen shown.entry) entries.now (string_bytes text)) }
 {
-    let Some(
-        Covering {
-            node,
-            access,
-            count,
-        },
-    ) = counts.most_covering()
-    else {
-        return Ok(String::new(alloc));
-    };
-    let access = access_text(alloc, shown, node, access)?;
-    covering_text(alloc, count, &access)
+    match counts.most_covering() {
+        Some(covering) => covering_text(alloc, shown, covering),
+        None => Ok(String::new(alloc)),
+    }
 }
 
 // The first nodes, so many.
@@ -120,7 +127,7 @@ fn sentence(
         (string_bytes words)) }
 {
     let counts = EntryCounts::of(rt, alloc, shown.paths, &certificate.entries)?;
-    let most = most_text(alloc, shown, &counts)?;
+    let most = most_text(alloc, shown, &certificate.entries, &counts)?;
     let asked = question_count(shown.paths);
     let questions = questions_text(alloc, certificate, &counts, asked, &most)?;
     let levels = levels_text(alloc, shown, certificate)?;

@@ -7,10 +7,10 @@ use Rattle.rayon.specs.Lists.{chunks_of}
 use Rattle.rayon.proofs.ToStd.{slice-AllZip}
 use Rattle.conflict_pairs.proofs.Collecting.{gathered}
 use Rattle.robust_cert.specs.declared.entries.Told.{Told}
-use Rattle.robust_cert.specs.Sharing.{HasReason}
-use Rattle.analysis_words.specs.declared.entry_counts.EntryCounts.{EntryCounts}
+use Rattle.robust_cert.specs.Sharing.{HasReason, entries_told}
 use Rattle.conflict_pairs.proofs.Parts.{in_each_chunk}
-use Rattle.analysis_words.proofs.Counting.{IsCounted, all_counted}
+use Rattle.analysis_words.specs.Counts.{AreCountsOf}
+use Rattle.analysis_words.proofs.Counting.{counted-in-parts}
 use Rattle.analysis_words.proofs.entry_counts.count_parts.Goals as goal
 
 pub collect-requires : goal.collect-requires
@@ -39,11 +39,12 @@ collect-requires g c κs =
 
 pub returns : goal.returns
 returns g c =
+    let nodes = c.args.nodes.now in
     let rs = c.args.reasons.now in
     let told = c.args.told.now in
     let size = c.part_len.result in
     let h = c.in_ok-collect.ensures in
     let chain = rw (c.map.ensures.base, c.map.ensures.f, c.par_chunks.ensures.slice, c.par_chunks.ensures.size) at h.1 in
-    IfOk-weaker c.in_ok-collect.field-0 _ _ (λ v z. all_counted rs told size v.items z)
-    (gathered _ (IsCounted rs) (λ v. v.items) _ (chunks_of (max size 1) told) h.0
-    (slice-AllZip chain.0 (chunks_of (max size 1) told) chain.1 (λ part x. IfOk x (IsCounted rs part)) h.0 chain.2) h.2)
+    IfOk-weaker c.in_ok-collect.field-0 _ _ (λ v z. counted-in-parts nodes rs told size v z)
+    (gathered _ (λ part. AreCountsOf nodes (entries_told rs part)) (λ v. v.items) _ (chunks_of (max size 1) told) h.0
+    (slice-AllZip chain.0 (chunks_of (max size 1) told) chain.1 (λ part x. IfOk x (AreCountsOf nodes (entries_told rs part))) h.0 chain.2) h.2)

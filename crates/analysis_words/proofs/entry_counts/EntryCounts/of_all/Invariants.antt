@@ -1,7 +1,7 @@
-use Rattle.std.proofs.Common.{◌≡◌, take}
-use Rattle.std.specs.List.{sum_by}
+use Rattle.std.proofs.Common.{take}
+use Rattle.analysis_words.specs.Counts.{IsSumOf}
 use Rattle.analysis_words.proofs.entry_counts.EntryCounts.of_all.Given as goal
 
--- the counts of the parts so far
+-- the sums of the parts so far
 abbrev pub invariant-loop-part : goal.invariant-loop-part
-invariant-loop-part l = l.counts.apart ≡ sum_by (λ p. p.apart) (take l.part-index l.parts)
+invariant-loop-part l = IsSumOf l.nodes (take l.part-index l.parts) l.counts

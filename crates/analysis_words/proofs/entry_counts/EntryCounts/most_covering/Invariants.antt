@@ -1,0 +1,6 @@
+use Rattle.analysis_words.specs.Counts.{IsBefore, IsMostAmong, count_at}
+use Rattle.analysis_words.proofs.entry_counts.EntryCounts.most_covering.Given as goal
+
+-- the greatest count of the nodes so far
+abbrev pub invariant-loop-node : goal.invariant-loop-node
+invariant-loop-node l = IsMostAmong (count_at l.self.covers.items) (λ x a. IsBefore x a l.node 0) l.most
