@@ -4,7 +4,7 @@ ghost use Rattle.prog_tree.specs.Number.{least, greatest};
 ghost use Rattle.prog_tree.specs.Pieces.{rows_of};
 ghost use Rattle.prog_tree.specs.Table.{TableState, rows_in};
 ghost use Rattle.version_store.specs.Blocks.{AreEnds, AreInner, AreTrue, HaveNoneInCommon};
-ghost use Rattle.version_store.specs.Blocks.{IsBySlot, IsCommon, IsPart, IsSilentSlot, LieIn};
+ghost use Rattle.version_store.specs.Blocks.{IsBySlot, IsCommon, IsOfSlot, IsPart, IsSilentSlot, LieIn};
 ghost use Rattle.version_store.specs.Blocks.{in_common, part_before, part_behind, part_between};
 ghost use Rattle.version_store.specs.Reading.{AllRise};
 ghost use Rattle.version_store.specs.Regions.{seen_in, IsSeen};
@@ -14,6 +14,9 @@ use crate::blocks::{Blocks, reaches};
 use crate::chains::Chains;
 use prog_tree::{Cell, Piece, Region, RowPieces};
 use std::alloc::{AllocError, Global};
+
+// For how many pieces a scan makes room at most before it has met one.
+const FIRST_PIECES: usize = 32;
 
 // The part of a region between two ends.
 fn part_between(region: &Region, low: i64, high: i64) -> Region
@@ -135,14 +138,28 @@ impl Slot {
         let Some(rows) = self.rows_at(start) else {
             return Ok(None);
         };
-        if part.is_same(&self.region) {
-            return Ok(Some(rows.share()?));
-        }
         Ok(Some(rows_within(alloc, rows.rows(), part)?))
     }
 
+    // All of it with its rows after the first `start` commits, if it has them. They are shared.
+    fn whole(&self, start: u64) -> Result<Option<PartRows>, AllocError>
+        ensures part { IfOk result (λ found. IfSome found (λ whole.
+            whole.part ≡ self.now.region)) }
+        ensures rows { IfOk result (λ found. IfSome found (λ whole.
+            IsOfSlot start self.now whole.rows)) }
+        ensures none { IfOk result (λ found. found ≡ None → IsSilentSlot start self.now) }
+    {
+        let Some(rows) = self.rows_at(start) else {
+            return Ok(None);
+        };
+        Ok(Some(PartRows {
+            part: self.region,
+            rows: rows.share()?,
+        }))
+    }
+
     // What it has in common with a region, with the rows after the first `start` commits, if it
-    // has them.
+    // has them. Mostly that is all of it.
     fn rows_inside(
         &self,
         alloc: Global,
@@ -156,6 +173,9 @@ impl Slot {
         ensures none { IfOk result (λ found. found ≡ None →
             IsSilentSlot start self.now ⊎ HaveNoneInCommon self.now.region region.now) }
     {
+        if is_part(&self.region, region) {
+            return self.whole(start);
+        }
         let Some(part) = common_part(&self.region, region) else {
             return Ok(None);
         };
@@ -202,7 +222,7 @@ impl Blocks {
             IsSeen (seen_in region.now start) chains.now rows) }
     {
         chains.read_order();
-        let mut pieces = Vec::new(self.alloc);
+        let mut pieces = Vec::with_capacity(self.alloc, self.slots.len().min(FIRST_PIECES))?;
         let Some((low, _)) = region.corners() else {
             return RowPieces::from_pieces(self.alloc, pieces);
         };

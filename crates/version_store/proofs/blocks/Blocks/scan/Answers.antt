@@ -17,7 +17,7 @@ use Rattle.version_store.proofs.blocks.Blocks.scan.Goals as goal
 pub returns-in_default : goal.returns-in_default
 returns-in_default c =
     IfOk-weaker c.from_pieces.result _ _
-    (λ rows is rise floor above holds. none_seen c.args.region.now c.args.start c.args.chains.now c.in_default.ensures rows (is ∙ ap rows_of c.new-pieces.ensures.items))
+    (λ rows is rise floor above holds. none_seen c.args.region.now c.args.start c.args.chains.now c.in_default.ensures rows (is ∙ ap rows_of c.in_ok-pieces.ensures.items))
     c.from_pieces.ensures
 
 pub loop-slot-init : goal.loop-slot-init
@@ -25,7 +25,7 @@ loop-slot-init c =
     let slots = c.self.inside.slots.entries in
     let between : c.into_iter-slot-iterator.result ≡ filter (λ (e : Cell × Slot). is_from c.in-Some.low e.0) slots =
     c.into_iter-slot-iterator.ensures.into_iter_gives ∙ c.range-slot-items.ensures.between tt in
-    rw (← c.self.view_is, c.new-pieces.ensures.items) (record {
+    rw (← c.self.view_is, c.in_ok-pieces.ensures.items) (record {
       among = left_first (is_from c.in-Some.low) slots c.into_iter-slot-iterator.result c.range-slot-items.ensures.ordered between;
       shares = λ rise floor above holds. refl;
     })
