@@ -6,10 +6,11 @@ ghost use Rattle.si_engine.specs.Commands.{program_call, begin_command, begin_at
 ghost use Rattle.si_engine.specs.Commands.{step_command, commit_command, abort_command};
 ghost use Rattle.si_engine.specs.Commands.{vacuum_command, command_of, line_command};
 ghost use Rattle.si_engine.specs.LineFaults.{Reads};
+ghost use Rattle.si_engine.specs.Lines.{words_of};
 
 use crate::event::Event;
 use crate::input::line_fault::LineFault;
-use crate::input::line_words::{LineWord, line_words};
+use crate::input::line_words::{LineWord, first_word, line_words};
 use crate::input::lines::is_skipped;
 use crate::input::names::program_number;
 use crate::input::number::{number_between, numbers, unsigned};
@@ -102,66 +103,75 @@ fn begin_at(
 }
 
 // The number of an instance.
-fn instance(word: &LineWord<'_>) -> Option<usize>
+fn instance(word: &[u8]) -> Option<usize>
     ensures { result ≡ instance_number word.now }
 {
-    number_between(0, MAX_INSTANCE, word.as_bytes())
+    number_between(0, MAX_INSTANCE, word)
 }
 
-fn steps(number: &LineWord<'_>, times: &LineWord<'_>) -> Option<Command>
+fn steps(number: &[u8], times: &[u8]) -> Option<Command>
     ensures { result ≡ steps_of number.now times.now }
 {
     let instance = instance(number)?;
-    let times = number_between(1, MAX_STEPS, times.as_bytes())?;
+    let times = number_between(1, MAX_STEPS, times)?;
     Some(Command::Steps { instance, times })
 }
 
+// The steps of the words behind `step`: an instance, and maybe how many.
 #[tactic(auto, unfolding(crate::specs::Commands::step_command))]
-fn step(line: usize, words: &[LineWord<'_>]) -> Result<Command, LineFault>
-    ensures { result ≡ step_command line words.now }
+fn step(line: usize, words: &[u8]) -> Result<Command, LineFault>
+    ensures { result ≡ step_command line (words_of words.now) }
 {
-    let step = match words {
-        [word] => instance(word).map(|instance| Command::Steps { instance, times: 1 }),
-        [word, times] => steps(word, times),
-        _ => None,
+    let Some((word, rest)) = first_word(words) else {
+        return Err(LineFault::BadLine { line });
     };
-    step.ok_or(LineFault::BadLine { line })
+    let Some((times, rest)) = first_word(rest) else {
+        let instance = instance(word).ok_or(LineFault::BadLine { line })?;
+        return Ok(Command::Steps { instance, times: 1 });
+    };
+    if first_word(rest).is_some() {
+        return Err(LineFault::BadLine { line });
+    }
+    steps(word, times).ok_or(LineFault::BadLine { line })
 }
 
 // The instance that a line names, and nothing else.
 #[tactic(auto, unfolding(crate::specs::Commands::one_instance))]
-fn one_instance(line: usize, words: &[LineWord<'_>]) -> Result<usize, LineFault>
-    ensures { result ≡ one_instance line words.now }
+fn one_instance(line: usize, words: &[u8]) -> Result<usize, LineFault>
+    ensures { result ≡ one_instance line (words_of words.now) }
 {
-    let [word] = words else {
+    let Some((word, rest)) = first_word(words) else {
         return Err(LineFault::BadLine { line });
     };
+    if first_word(rest).is_some() {
+        return Err(LineFault::BadLine { line });
+    }
     instance(word).ok_or(LineFault::BadLine { line })
 }
 
 #[tactic(auto, unfolding(crate::specs::Commands::commit_command))]
-fn commit(line: usize, words: &[LineWord<'_>]) -> Result<Command, LineFault>
-    ensures { result ≡ commit_command line words.now }
+fn commit(line: usize, words: &[u8]) -> Result<Command, LineFault>
+    ensures { result ≡ commit_command line (words_of words.now) }
 {
     let instance = one_instance(line, words)?;
     Ok(Command::Event(Event::Commit(instance)))
 }
 
 #[tactic(auto, unfolding(crate::specs::Commands::abort_command))]
-fn abort(line: usize, words: &[LineWord<'_>]) -> Result<Command, LineFault>
-    ensures { result ≡ abort_command line words.now }
+fn abort(line: usize, words: &[u8]) -> Result<Command, LineFault>
+    ensures { result ≡ abort_command line (words_of words.now) }
 {
     let instance = one_instance(line, words)?;
     Ok(Command::Event(Event::Abort(instance)))
 }
 
 #[tactic(auto, unfolding(crate::specs::Commands::vacuum_command))]
-fn vacuum(line: usize, words: &[LineWord<'_>]) -> Result<Command, LineFault>
-    ensures { result ≡ vacuum_command line words.now }
+fn vacuum(line: usize, words: &[u8]) -> Result<Command, LineFault>
+    ensures { result ≡ vacuum_command line (words_of words.now) }
 {
-    match words {
-        [] => Ok(Command::Event(Event::Vacuum)),
-        _ => Err(LineFault::BadLine { line }),
+    match first_word(words) {
+        None => Ok(Command::Event(Event::Vacuum)),
+        Some(_) => Err(LineFault::BadLine { line }),
     }
 }
 
@@ -170,27 +180,29 @@ fn words_command(
     alloc: Global,
     set: &ProgramSet,
     line: usize,
-    words: &[LineWord<'_>],
+    bytes: &[u8],
 ) -> Result<Command, LineFault>
-    ensures { Reads (λ command. command) result (command_of (draft_tree set.now) line words.now) }
+    ensures { Reads (λ command. command) result
+        (command_of (draft_tree set.now) line (words_of bytes.now)) }
 {
-    let [first, rest @ ..] = words else {
+    let Some((first, words)) = first_word(bytes) else {
         return Err(LineFault::BadLine { line });
     };
+    let first = LineWord::new(first);
     if first.is(b"row") {
-        row(set, line, rest)
+        row(set, line, line_words(alloc, words)?.as_slice())
     } else if first.is(b"begin") {
-        begin(alloc, set, line, rest)
+        begin(alloc, set, line, line_words(alloc, words)?.as_slice())
     } else if first.is(b"begin-at") {
-        begin_at(alloc, set, line, rest)
+        begin_at(alloc, set, line, line_words(alloc, words)?.as_slice())
     } else if first.is(b"step") {
-        step(line, rest)
+        step(line, words)
     } else if first.is(b"commit") {
-        commit(line, rest)
+        commit(line, words)
     } else if first.is(b"abort") {
-        abort(line, rest)
+        abort(line, words)
     } else if first.is(b"vacuum") {
-        vacuum(line, rest)
+        vacuum(line, words)
     } else {
         Err(LineFault::BadLine { line })
     }
@@ -209,6 +221,5 @@ pub fn line_command(
     if is_skipped(bytes) {
         return Ok(Command::Skip);
     }
-    let words = line_words(alloc, bytes)?;
-    words_command(alloc, set, line, words.as_slice())
+    words_command(alloc, set, line, bytes)
 }

@@ -76,8 +76,8 @@ impl<'a> LineWords<'a> {
     }
 }
 
-// The first word of a line, and what stands behind it.
-fn first_word(line: &[u8]) -> Option<(&[u8], &[u8])>
+/// The first word of a line, and what stands behind it.
+pub(crate) fn first_word(line: &[u8]) -> Option<(&[u8], &[u8])>
     ensures words { MatchOption result (words_of line.now ≡ [])
         (λ found. words_of line.now ≡ found.0.now ∷ words_of found.1.now) }
     ensures shorter { IfSome result (λ found. length found.1.now < length line.now) }
