@@ -2,7 +2,9 @@
 use Rattle.std.specs.Prelude.{◌≡◌, ℕ, ◌<◌, ◌++◌, List, length, map, All, slice_index_or, true}
 use Rattle.std.specs.List.{AllZip}
 use Rattle.prog_check.specs.declared.path.Path.{Path}
+use Rattle.prog_paths.specs.Changers.{changers_of}
 use Rattle.prog_paths.specs.Listing.{IsAskedOf}
+use Rattle.prog_paths.specs.Tally.{of_table}
 use Rattle.prog_paths.specs.Questions.{asked_by, asks, question_between}
 use Rattle.prog_paths.specs.declared.accesses.places.Placed.{Placed}
 use Rattle.prog_paths.specs.declared.accesses.questions.Question.{Question}
@@ -65,6 +67,10 @@ AddsQuestions k m answers old new seconds =
     → AreQuestionsListed paths verdicts k.places.items new (qs ++ asked_by (place_at k.places.items m) seconds)
 
 -- ---- a part of all questions
+
+-- of each table these are the accesses that change it
+abbrev pub AreChangersOf : (places changers : List Placed) → Type 0
+AreChangersOf places changers = (table : ℕ) → of_table table changers ≡ changers_of table places
 
 -- the questions that are listed, each with the verdict of its number
 abbrev pub entries_in : List Placed → List Verdict → Listed → List Judged

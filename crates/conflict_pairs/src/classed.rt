@@ -6,7 +6,7 @@ ghost use Rattle.prog_paths.specs.Limits.{most_questions};
 ghost use Rattle.conflict_pairs.specs.Classed.{AnswersAll, AreClassesJudged, ClassAnswer};
 ghost use Rattle.conflict_pairs.specs.Classes.{AreClassesOf};
 ghost use Rattle.conflict_pairs.specs.ClassPairs.{AreClassPairs};
-ghost use Rattle.conflict_pairs.specs.Listed.{AreJudged, IsListedIn, entries_in};
+ghost use Rattle.conflict_pairs.specs.Listed.{AreChangersOf, AreJudged, IsListedIn, entries_in};
 ghost use Rattle.conflict_pairs.specs.Table.{IsOnQuestion, StandsFor};
 ghost use Rattle.conflict_pairs.specs.declared.fault.PairFault as PairFault;
 
@@ -20,7 +20,7 @@ use crate::parallel::verdicts_par;
 use crate::table::{PairTable, TablePart};
 use crate::verdicts::Verdict;
 use prog_check::{Kind, Path};
-use prog_paths::{MAX_QUESTIONS, Placed, question_count};
+use prog_paths::{Changers, MAX_QUESTIONS, Placed, question_count};
 use std::alloc::{AllocError, Global};
 use std::marker::Model;
 use std::thread::Threads;
@@ -178,9 +178,22 @@ impl<'a> ClassTable<'a> {
         &self.judged.values[self.judged.numbers[n] as usize]
     }
 
+    /// The accesses that change a table, for all lists that are made of some accesses.
+    pub fn changers(&self, alloc: Global) -> Result<Changers, AllocError>
+        ensures { IfOk result (AreChangersOf self.now.places) }
+    {
+        Changers::of(alloc, self.places())
+    }
+
     /// What some of the accesses ask.
-    pub fn listed_of(&self, alloc: Global, firsts: &[Placed]) -> Result<Listed, AllocError>
-        requires { All (λ p. IsAt self.now.paths p) firsts.now }
+    pub fn listed_of(
+        &self,
+        alloc: Global,
+        changers: &Changers,
+        firsts: &[Placed],
+    ) -> Result<Listed, AllocError>
+        requires changers { AreChangersOf self.now.places changers.now }
+        requires firsts { All (λ p. IsAt self.now.paths p) firsts.now }
         ensures listed { IfOk result (λ listed.
             IsListedIn self.now.places self.now.verdicts listed) }
         ensures judged { IfOk result (λ listed. AreJudged self.now.paths
@@ -188,7 +201,7 @@ impl<'a> ClassTable<'a> {
             (asked_among firsts.now self.now.places)) }
     {
         let (classes, asked, judged) = (&self.classes, &self.asked, &self.judged);
-        listed_of(alloc, self.paths, classes, asked, judged, firsts)
+        listed_of(alloc, self.paths, classes, asked, judged, changers, firsts)
     }
 
     /// The part of the table of all questions that has what is listed.
@@ -206,7 +219,8 @@ impl<'a> ClassTable<'a> {
     pub fn listed(self, alloc: Global) -> Result<PairTable<'a>, AllocError>
         ensures { IfOk result (λ table. StandsFor table self.entry.paths) }
     {
-        let listed = self.listed_of(alloc, self.places())?;
+        let changers = self.changers(alloc)?;
+        let listed = self.listed_of(alloc, &changers, self.places())?;
         Ok(PairTable::of(self, listed))
     }
 }

@@ -7,8 +7,8 @@ ghost use Rattle.prog_paths.specs.Questions.{ChangesSingleCells, asked_among, qu
 ghost use Rattle.prog_paths.specs.Limits.{most_questions};
 ghost use Rattle.conflict_pairs.specs.Classed.{AreClassesJudged};
 ghost use Rattle.conflict_pairs.specs.ClassPairs.{IsInRow};
-ghost use Rattle.conflict_pairs.specs.Listed.{AddsQuestions, AreQuestionsListed, HasClass, IsEntered};
-ghost use Rattle.conflict_pairs.specs.Listed.{SpreadsRow};
+ghost use Rattle.conflict_pairs.specs.Listed.{AddsQuestions, AreChangersOf, AreQuestionsListed};
+ghost use Rattle.conflict_pairs.specs.Listed.{HasClass, IsEntered, SpreadsRow};
 ghost use Rattle.conflict_pairs.specs.Pairing.{StandsAt, place_at};
 ghost use Rattle.conflict_pairs.specs.Table.{StandsFor};
 
@@ -100,14 +100,15 @@ pub fn listed_of(
     classes: &AccessClasses,
     asked: &ClassPairs,
     judged: &Interned<Verdict>,
+    changers: &Changers,
     firsts: &[Placed],
 ) -> Result<Listed, AllocError>
     requires judged { AreClassesJudged paths.now classes.now asked.now judged.now }
+    requires changers { AreChangersOf classes.now.places.items changers.now }
     requires firsts { All (λ p. IsAt paths.now p) firsts.now }
     ensures { IfOk result (λ listed. AreQuestionsListed paths.now judged.now.values.items
         classes.now.places.items listed (asked_among firsts.now classes.now.places.items)) }
 {
-    let changers = Changers::of(alloc, &classes.places)?;
     let mut listed = Listed {
         pairs: Vec::new(alloc),
         numbers: Vec::new(alloc),

@@ -2,6 +2,7 @@
 //! several threads tell where there are many.
 ghost use Rattle.std.specs.Prelude.{◌≡◌, ◌<◌, ◌≤◌, ◌+◌, ◌++◌, All, IfOk, List, vec_len};
 ghost use Rattle.std.specs.Prelude.{vec_capacity};
+ghost use Rattle.conflict_pairs.specs.Listed.{AreChangersOf};
 ghost use Rattle.prog_paths.specs.Few.{AreFew};
 ghost use Rattle.prog_paths.specs.Places.{IsAt};
 ghost use Rattle.prog_paths.specs.Questions.{asked_among, questions_of};
@@ -17,7 +18,7 @@ ghost use Rattle.si_repair.specs.Telling.{IsPartTold, firsts_in};
 use crate::certificate::as_u32;
 use crate::reasons::reasons_of;
 use conflict_pairs::{ClassTable, Interned, Question, TablePart, Verdict};
-use prog_paths::Placed;
+use prog_paths::{Changers, Placed};
 use rayon::prelude::*;
 use robust_cert::{Entries, EntryQuestion, Reason, Told};
 use std::alloc::{AllocError, Global};
@@ -83,16 +84,18 @@ fn told_of_part(
 fn told_of_some(
     alloc: Global,
     table: &ClassTable<'_>,
+    changers: &Changers,
     given: &Interned<Reason>,
     firsts: &[Placed],
 ) -> Result<Vec<Told>, AllocError>
     requires few { AreFew table.now.paths }
+    requires changers { AreChangersOf table.now.places changers.now }
     requires given { AreGiven table.now.verdicts given.now.values.items given.now.numbers.items }
     requires firsts { All (λ p. IsAt table.now.paths p) firsts.now }
     ensures { IfOk result (λ told. IsToldOf table.now.paths given.now.values.items
         (asked_among firsts.now table.now.places) told.items) }
 {
-    let listed = table.listed_of(alloc, firsts)?;
+    let listed = table.listed_of(alloc, changers, firsts)?;
     let told = told_of_part(alloc, &table.part(&listed), given)?;
     Ok(told)
 }
@@ -103,7 +106,8 @@ pub fn entries_of(alloc: Global, table: &ClassTable<'_>) -> Result<Entries, Allo
     ensures { IfOk result (AreEntriesOf table.now.paths) }
 {
     let given = reasons_of(alloc, table.verdicts())?;
-    let told = told_of_some(alloc, table, &given, table.places())?;
+    let changers = table.changers(alloc)?;
+    let told = told_of_some(alloc, table, &changers, &given, table.places())?;
     Ok(Entries::of(told, given.values))
 }
 
@@ -142,10 +146,12 @@ fn tell_parts(
     rt: &(impl Threads + Sync),
     alloc: Global,
     table: &ClassTable<'_>,
+    changers: &Changers,
     given: &Interned<Reason>,
     parts: &mut Vec<ToldPart<'_>>,
 )
     requires few { AreFew table.now.paths }
+    requires changers { AreChangersOf table.now.places changers.now }
     requires given { AreGiven table.now.verdicts given.now.values.items given.now.numbers.items }
     requires firsts { All (λ p. IsAt table.now.paths p) (firsts_in parts.old.items) }
     ensures firsts { firsts_in parts.new.items ≡ firsts_in parts.old.items }
@@ -157,13 +163,14 @@ fn tell_parts(
         parts,
         |_n: usize, part: &mut ToldPart|
             requires few { AreFew table.now.paths }
+            requires changers { AreChangersOf table.now.places changers.now }
             requires given { AreGiven table.now.verdicts given.now.values.items
                 given.now.numbers.items }
             requires firsts { All (λ p. IsAt table.now.paths p) part.old.firsts.now }
             ensures firsts { part.new.firsts.now ≡ part.old.firsts.now }
             ensures told { IsPartTold table.entry.now.paths given.entry.now.values.items
                 table.entry.now.places part.new }
-        { part.told = told_of_some(alloc, table, given, part.firsts) },
+        { part.told = told_of_some(alloc, table, changers, given, part.firsts) },
     );
 }
 
@@ -202,8 +209,9 @@ pub fn entries_of_par(
     ensures { IfOk result (AreEntriesOf table.now.paths) }
 {
     let given = reasons_of(alloc, table.verdicts())?;
+    let changers = table.changers(alloc)?;
     let mut parts = parts_of(alloc, table.places())?;
-    tell_parts(rt, alloc, table, &given, &mut parts);
+    tell_parts(rt, alloc, table, &changers, &given, &mut parts);
     let told = joined(alloc, parts)?;
     Ok(Entries::of(told, given.values))
 }

@@ -258,12 +258,15 @@ fn first_part(
     let table = table.expect(rt, "a table");
     let places = table.places();
     assert!(rt; !places.is_empty());
-    let listed = table.listed_of(alloc, &places[..1])?;
+    let first = &places[..1];
+    let changers = table.changers(alloc)?;
+    let listed = table.listed_of(alloc, &changers, first)?;
     let part = table.part(&listed);
     assert!(rt; !part.is_empty() && part.verdict(0).can_meet());
     let mut text = String::new(alloc);
     push_part(&mut text, &table, &part)?;
     drop(listed);
+    drop(changers);
     drop(table);
     Ok(text)
 }

@@ -1,7 +1,6 @@
 use Rattle.std.proofs.Common.{◌∙◌, ◌<◌, ◌++◌, ℕ, List, length, get_or, take, take_all, ap, sym, subst, arith}
 use Rattle.std.proofs.lemmas.List.{get_or_read}
 use Rattle.prog_paths.specs.declared.accesses.questions.Question.{Question}
-use Rattle.prog_paths.specs.Changers.{changers_of}
 use Rattle.prog_paths.specs.declared.accesses.places.Placed.{Placed}
 use Rattle.prog_paths.specs.Questions.{asked_among, asked_by}
 use Rattle.conflict_pairs.specs.declared.class_pairs.Row.{Row}
@@ -20,15 +19,14 @@ number_of-number-requires-clause-stands c =
 
 pub spread-requires-clause-one_each : goal.spread-requires-clause-one_each
 spread-requires-clause-one_each c =
-    ap (λ (l : List ℕ). length l) c.deref-in-loop-first-2.ensures.value
+    ap (λ (l : List ℕ). length l) c.deref-in-loop-first.ensures.value
     ∙ verdict-each c.args.paths.now c.args.classes.now c.args.asked.now c.args.judged.now c.requires.judged
-    ∙ sym (ap (λ (l : List PlacePair). length l) c.deref-in-loop-first.ensures.value)
+    ∙ sym (ap (λ (l : List PlacePair). length l) c.deref.ensures.value)
 
 pub push_questions-requires-clause-seconds : goal.push_questions-requires-clause-seconds
 push_questions-requires-clause-seconds c =
     let classes = c.args.classes.now in
-    changers-all (StandsAt classes.starts.items classes.places.items) classes.places.items c.in_ok-changers.changers c.of_table-seconds.result.now _ c.of_table-seconds.ensures
-    (λ table. c.in_ok-changers.ensures table ∙ ap (changers_of table) c.deref.ensures.value)
+    changers-all (StandsAt classes.starts.items classes.places.items) classes.places.items c.args.changers.now c.of_table-seconds.result.now _ c.of_table-seconds.ensures c.requires.changers
     (places-stand c.args.paths.now classes c.requires.judged.classes)
 
 pub loop-first-preserved : goal.loop-first-preserved
@@ -51,10 +49,10 @@ loop-first-preserved c =
     let none : Row = record { start = 0; end = 0 } in
     let row_is = get_or_read asked.rows.items c.index.result.now c.index-row.result.now row_inside c.index-row.ensures none ∙ ap (λ (z : ℕ). get_or asked.rows.items z none) class_is in
     let spread =
-    subst (λ (l : List ℕ). SpreadsRow classes asked.pairs.items l c.index-row.result.now c.spread.new.answers.items) c.deref-in-loop-first-2.ensures.value
-    (subst (λ (l : List PlacePair). SpreadsRow classes l c.deref-in-loop-first-2.result.now c.index-row.result.now c.spread.new.answers.items) c.deref-in-loop-first.ensures.value c.spread.ensures.spread) in
+    subst (λ (l : List ℕ). SpreadsRow classes asked.pairs.items l c.index-row.result.now c.spread.new.answers.items) c.deref-in-loop-first.ensures.value
+    (subst (λ (l : List PlacePair). SpreadsRow classes l c.deref-in-loop-first.result.now c.index-row.result.now c.spread.new.answers.items) c.deref.ensures.value c.spread.ensures.spread) in
     let known =
-    subst (λ (l : List ℕ). AnswersOf paths verdicts classes n l) (sym c.deref-in-loop-first-3.ensures.value)
+    subst (λ (l : List ℕ). AnswersOf paths verdicts classes n l) (sym c.deref-in-loop-first-2.ensures.value)
     (answers-from_row paths classes asked judged known_of n c.index-row.result.now c.spread.new.answers.items inside row_is spread) in
     let kept = listed-kept paths verdicts places c.loop-first.listed _ before c.in_ok-reserve.ensures.items c.in_ok-reserve-2.ensures.items c.loop-first.invariant.listed in
     let seconds = c.of_table-seconds.result.now in
@@ -63,7 +61,7 @@ loop-first-preserved c =
       listed =
           subst (λ (l : List Question). AreQuestionsListed paths verdicts places c.push_questions.new.listed l)
           (ap (λ (p : Placed). before ++ asked_by p seconds) c.number_of-number.ensures.is
-          ∙ among-take i firsts places seconds c.in_ok-changers.changers _ c.loop-first-test.true c.of_table-seconds.ensures (λ table. c.in_ok-changers.ensures table ∙ ap (changers_of table) c.deref.ensures.value))
+          ∙ among-take i firsts places seconds c.args.changers.now _ c.loop-first-test.true c.of_table-seconds.ensures c.requires.changers)
           (c.push_questions.ensures paths verdicts before known kept);
     }
 

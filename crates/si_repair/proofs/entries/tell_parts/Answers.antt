@@ -15,7 +15,7 @@ par_for_each_mut-requires-after_bounds g c κs within = λ i p lt is.
     let at : p.now ≡ get_or old i p.now = is ∙ ap (λ (l : List ToldPart). get_or l i p.now) c.deref_mut.ensures.value in
     let there : i < length old = subst (λ (l : List ToldPart). i < length l) c.deref_mut.ensures.value lt in
     let own = subst (λ (q : ToldPart). All (λ x. IsAt paths x) q.firsts.now) (sym at) (firsts-of (λ (x : Placed). IsAt paths x) old i p.now there c.requires.firsts) in
-    (c.requires.few, (c.requires.given, own))
+    (c.requires.few, (c.requires.changers, (c.requires.given, own)))
 
 pub returns-clause-firsts : goal.returns-clause-firsts
 returns-clause-firsts g c =
