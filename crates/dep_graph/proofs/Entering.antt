@@ -28,6 +28,10 @@ and-shared false true true = refl
 and-shared false true false = refl
 and-shared false false c = refl
 
+and-shared-left : (a b c : Bool) → ((a && b) || (a && c)) ≡ (a && (b || c))
+and-shared-left true b c = refl
+and-shared-left false b c = refl
+
 -- ---- one more of a list
 
 module _ {A : Type 0} (p : A → Bool) (xs : List A) (n : ℕ) (d : A) (inside : n < length xs) where
@@ -53,6 +57,27 @@ Enters-then first old new t u d e = record {
       ∙ ap (λ (b : Bool). b || u i j) (d.entries i j p q)
       ∙ or-regrouped (entry first i j) (t i j) (u i j);
 }
+
+-- one node more of some is joined to another one, or it to one node more
+pub one-more-first : (nodes : List ℕ) (n : ℕ) → n < length nodes → (first old new : Grid) (x y : ℕ) → x ≡ get_or nodes n 0
+    → Enters first old (λ i j. is_one_of (take n nodes) i && (y == j)) → Enters old new (λ i j. (x == i) && (y == j))
+    → Enters first new (λ i j. is_one_of (take (n + 1) nodes) i && (y == j))
+one-more-first nodes n inside first old new x y is before one =
+    Enters-as first new _ _
+    (λ i j p q.
+    and-shared (is_one_of (take n nodes) i) (x == i) (y == j)
+    ∙ ap (λ (b : Bool). b && (y == j)) (ap (λ (m : ℕ). is_one_of (take n nodes) i || m == i) is ∙ sym (any-more (λ m. m == i) nodes n 0 inside)))
+    (Enters-then first old new _ _ before one)
+
+pub one-more-second : (nodes : List ℕ) (n : ℕ) → n < length nodes → (first old new : Grid) (x y : ℕ) → y ≡ get_or nodes n 0
+    → Enters first old (λ i j. (x == i) && is_one_of (take n nodes) j) → Enters old new (λ i j. (x == i) && (y == j))
+    → Enters first new (λ i j. (x == i) && is_one_of (take (n + 1) nodes) j)
+one-more-second nodes n inside first old new x y is before one =
+    Enters-as first new _ _
+    (λ i j p q.
+    and-shared-left (x == i) (is_one_of (take n nodes) j) (y == j)
+    ∙ ap (λ (b : Bool). (x == i) && b) (ap (λ (m : ℕ). is_one_of (take n nodes) j || m == j) is ∙ sym (any-more (λ m. m == j) nodes n 0 inside)))
+    (Enters-then first old new _ _ before one)
 
 -- ---- rows and sets
 

@@ -48,8 +48,27 @@ fn join_one(table: &mut Square, x: usize, y: usize)
     }
 }
 
+/// Joins a node to each of others.
+fn join_each(table: &mut Square, x: usize, others: &[usize])
+    ensures { Enters table.old table.new (λ i j. (x == i) && is_one_of others.now j) }
+{
+    for y in others {
+        join_one(table, x, *y);
+    }
+}
+
+/// Joins each of some nodes to another one.
+fn join_each_to(table: &mut Square, nodes: &[usize], y: usize)
+    ensures { Enters table.old table.new (λ i j. is_one_of nodes.now i && (y == j)) }
+{
+    for x in nodes {
+        join_one(table, *x, y);
+    }
+}
+
 /// Joins each of some nodes to each of others where that is given. The others are put into the set,
-/// but for one alone, which is joined to one faster than a set is filled.
+/// but where there is one node on a side: a set is filled to be joined to several, and for one bit
+/// it is not worth its while.
 fn join_given(
     is_given: bool,
     table: &mut Square,
@@ -65,12 +84,14 @@ fn join_given(
     if !is_given {
         return;
     }
-    if let ([x], [y]) = (firsts, seconds) {
-        join_one(table, *x, *y);
-        return;
+    match (firsts, seconds) {
+        ([x], _) => join_each(table, *x, seconds),
+        (_, [y]) => join_each_to(table, firsts, *y),
+        _ => {
+            fill(set, seconds);
+            join_to_set(table, firsts, set);
+        }
     }
-    fill(set, seconds);
-    join_to_set(table, firsts, set);
 }
 
 /// Enters what is given from each of some nodes to each of others.
