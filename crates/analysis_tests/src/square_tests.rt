@@ -1,7 +1,7 @@
 //! Which node is joined to which.
 
 use order_facts::{NodeSet, Square};
-use prog_paths::{EdgeTables, Mark};
+use prog_paths::{EdgeTables, Gives, Mark};
 
 #[test]
 fn a_square_joins_one_way(rt: HostRuntime) {
@@ -22,13 +22,12 @@ fn a_square_joins_one_way(rt: HostRuntime) {
 #[test]
 fn a_question_gives_edges_both_ways_and_a_vulnerable_one(rt: HostRuntime) {
     let mut tables = EdgeTables::new(rt.alloc(), 3).expect(&rt, "memory");
-    tables.enter(Mark {
-        x: 0,
-        y: 2,
+    let gives = Gives {
         forward: true,
         backward: true,
         vulnerable: true,
-    });
+    };
+    tables.enter(Mark { x: 0, y: 2, gives });
     let edges = [
         tables.edges.get(0, 2),
         tables.edges.get(2, 0),

@@ -10,9 +10,10 @@ use Rattle.prog_check.specs.declared.path.Kind.{Kind}
 use Rattle.prog_check.specs.declared.path.Path.{Path}
 use Rattle.prog_paths.specs.StaticGraph.{StaticEdge, IsVulnerable, IsExposed, AsksReadWrite}
 use Rattle.prog_paths.specs.declared.accesses.mark.EdgeTables.{EdgeTables}
+use Rattle.prog_paths.specs.declared.accesses.mark.Gives.{Gives}
 use Rattle.prog_paths.specs.declared.accesses.mark.Mark.{Mark}
 use Rattle.prog_paths.specs.declared.accesses.questions.Question.{Question}
-use Rattle.prog_paths.specs.Marks.{mark_by, gives_edge, gives_vulnerable}
+use Rattle.prog_paths.specs.Marks.{gives_by, mark_by, gives_edge, gives_vulnerable}
 use Rattle.prog_paths.specs.Questions.{numbers_of}
 use Rattle.prog_paths.proofs.Edges.{HasQuestion-inside, EdgeOf-inside}
 use Rattle.prog_paths.proofs.Grids.{test-from_joined, joined-from_test}
@@ -52,19 +53,23 @@ EntersAnswer-apart e tables apart = record {
 -- ---- others
 
 -- what is given from some nodes to others is entered
-record EntersGiven (old new : EdgeTables) (given : Mark) (firsts seconds : List ℕ) : Type 0 where
+record EntersGiven (old new : EdgeTables) (given : Gives) (firsts seconds : List ℕ) : Type 0 where
   edges : Enters old.edges new.edges (λ x y. (given.forward && are_of firsts seconds x y) || (given.backward && are_of seconds firsts x y))
   vulnerable : Enters old.vulnerable new.vulnerable (λ x y. given.vulnerable && are_of firsts seconds x y)
 
-pub EntersAnswer-given : (e : ClassAnswer) (old new : EdgeTables) (mine theirs : Kind) (v : Verdict) (given : Mark) (firsts seconds : List ℕ) → given ≡ given_by mine theirs v → (mine ≡ e.mine) × (theirs ≡ e.theirs) → v ≡ e.verdict → firsts ≡ e.firsts → seconds ≡ e.seconds
+pub EntersAnswer-given : (e : ClassAnswer) (old new : EdgeTables) (mine theirs : Kind) (v : Verdict) (meets exposed : Bool) (given : Gives) (firsts seconds : List ℕ) → meets ≡ can_meet v → exposed ≡ is_exposed v → given ≡ gives_by mine theirs meets exposed
+    → (mine ≡ e.mine) × (theirs ≡ e.theirs) → v ≡ e.verdict → firsts ≡ e.firsts → seconds ≡ e.seconds
     → Enters old.edges new.edges (λ x y. (given.forward && are_of firsts seconds x y) || (given.backward && are_of seconds firsts x y))
     → Enters old.vulnerable new.vulnerable (λ x y. given.vulnerable && are_of firsts seconds x y) → EntersAnswer old new e
-EntersAnswer-given e old new mine theirs v given firsts seconds is kinds verdict is_firsts is_seconds edges vulnerable =
-    let told = subst (λ (g : Mark). EntersGiven old new g e.firsts e.seconds) (is ∙ same)
+EntersAnswer-given e old new mine theirs v meets exposed given firsts seconds is_meets exposes is kinds verdict is_firsts is_seconds edges vulnerable =
+    let told = subst (λ (g : Gives). EntersGiven old new g e.firsts e.seconds) (is ∙ by_verdict ∙ same)
     (subst (λ (ys : List ℕ). EntersGiven old new given e.firsts ys) is_seconds
     (subst (λ (xs : List ℕ). EntersGiven old new given xs seconds) is_firsts (record { edges = edges; vulnerable = vulnerable }))) in
     record { edges = told.edges; vulnerable = told.vulnerable }
   where
+    by_verdict : gives_by mine theirs meets exposed ≡ given_by mine theirs v
+    by_verdict = rw (is_meets, exposes) refl
+
     same : given_by mine theirs v ≡ given_by e.mine e.theirs e.verdict
     same = ap (λ (k : Kind). given_by k theirs v) kinds.0 ∙ ap (λ (k : Kind). given_by e.mine k v) kinds.1 ∙ ap (λ (w : Verdict). given_by e.mine e.theirs w) verdict
 
@@ -96,7 +101,7 @@ module _ (paths : List Path) (e : ClassAnswer) (right : IsRightOfEach paths e) w
 -- ---- what the paths have, the answers give
 
 module _ (paths : List Path) (q : Question) (e : ClassAnswer) (to_it : IsAnswerTo paths q e) where
-  as_given : mark_by q (can_meet e.verdict) (is_exposed e.verdict) ≡ record { x = q.x; y = q.y; forward = (given_by e.mine e.theirs e.verdict).forward; backward = (given_by e.mine e.theirs e.verdict).backward; vulnerable = (given_by e.mine e.theirs e.verdict).vulnerable }
+  as_given : mark_by q (can_meet e.verdict) (is_exposed e.verdict) ≡ record { x = q.x; y = q.y; gives = given_by e.mine e.theirs e.verdict }
   as_given = rw (to_it.mine, to_it.theirs) refl
 
   edge-answered : (x y : ℕ) → gives_edge x y (mark_by q (can_meet e.verdict) (is_exposed e.verdict)) ≡ true → answer_edge x y e ≡ true

@@ -5,8 +5,8 @@ use Rattle.order_facts.specs.Square.{Grid, Joins, Enters}
 use Rattle.prog_check.specs.declared.path.Kind.{Kind}
 use Rattle.prog_check.specs.declared.path.Path.{Path}
 use Rattle.prog_paths.specs.declared.accesses.mark.EdgeTables.{EdgeTables}
-use Rattle.prog_paths.specs.declared.accesses.mark.Mark.{Mark}
-use Rattle.prog_paths.specs.Marks.{mark_by}
+use Rattle.prog_paths.specs.declared.accesses.mark.Gives.{Gives}
+use Rattle.prog_paths.specs.Marks.{gives_by}
 use Rattle.prog_paths.specs.Questions.{ChangesSingleCells}
 use Rattle.prog_paths.specs.StaticGraph.{StaticEdge, IsVulnerable}
 use Rattle.conflict_pairs.specs.declared.verdicts.Verdict.{Verdict}
@@ -16,11 +16,9 @@ use Rattle.dep_graph.specs.Reaching.{IsReachOf}
 
 -- ---- what answers give
 
--- what two accesses of these kinds give by their verdict, at whatever nodes
-abbrev pub given_by : (mine theirs : Kind) → Verdict → Mark
-given_by mine theirs verdict =
-    mark_by (record { x = 0; a = 0; y = 0; b = 0; mine = mine; theirs = theirs })
-    (can_meet verdict) (is_exposed verdict)
+-- what two accesses of these kinds give by their verdict
+abbrev pub given_by : (mine theirs : Kind) → Verdict → Gives
+given_by mine theirs verdict = gives_by mine theirs (can_meet verdict) (is_exposed verdict)
 
 -- a node is one of some
 abbrev pub is_one_of : List ℕ → ℕ → Bool

@@ -5,13 +5,12 @@ ghost use Rattle.order_facts.specs.Sets.{is_in};
 ghost use Rattle.order_facts.specs.Square.{Enters};
 ghost use Rattle.prog_paths.specs.StaticGraph.{StaticEdge, IsVulnerable};
 ghost use Rattle.conflict_pairs.specs.Classed.{ClassAnswer};
-ghost use Rattle.dep_graph.specs.Edges.{are_of, given_by, is_one_of, EntersAnswer, HaveNodes};
+ghost use Rattle.dep_graph.specs.Edges.{are_of, is_one_of, EntersAnswer, HaveNodes};
 ghost use Rattle.dep_graph.specs.Edges.{IsTableOf};
 
-use conflict_pairs::{ClassTable, Question, Verdict};
+use conflict_pairs::ClassTable;
 use order_facts::{NodeSet, Square};
-use prog_check::Kind;
-use prog_paths::{EdgeTables, Mark, mark_by};
+use prog_paths::{EdgeTables, Gives, gives_by};
 use std::alloc::{AllocError, Global};
 
 /// Has a set have some nodes, and no others.
@@ -98,7 +97,7 @@ fn join_given(
 fn enter_given(
     tables: &mut EdgeTables,
     set: &mut NodeSet,
-    given: Mark,
+    given: Gives,
     firsts: &[usize],
     seconds: &[usize],
 )
@@ -121,21 +120,6 @@ fn enter_given(
     );
 }
 
-/// What two accesses of these kinds give, at whatever nodes.
-fn given_by(mine: Kind, theirs: Kind, verdict: &Verdict) -> Mark
-    ensures { result ≡ given_by mine theirs verdict.now }
-{
-    let question = Question {
-        x: 0,
-        a: 0,
-        y: 0,
-        b: 0,
-        mine,
-        theirs,
-    };
-    mark_by(question, verdict.can_meet(), verdict.is_exposed())
-}
-
 /// Enters what the pair of classes of a number gives: the same for each node of the first and each
 /// of the second. Accesses that never meet give nothing.
 fn enter_answer(tables: &mut EdgeTables, set: &mut NodeSet, table: &ClassTable<'_>, n: usize)
@@ -150,7 +134,7 @@ fn enter_answer(tables: &mut EdgeTables, set: &mut NodeSet, table: &ClassTable<'
         return;
     }
     let (mine, theirs) = table.kinds(n);
-    let given = given_by(mine, theirs, verdict);
+    let given = gives_by(mine, theirs, verdict.can_meet(), verdict.is_exposed());
     let firsts = table.first_nodes(n);
     let seconds = table.second_nodes(n);
     enter_given(tables, set, given, firsts, seconds);

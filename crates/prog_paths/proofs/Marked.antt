@@ -56,16 +56,6 @@ same_access nodes x a one other h k =
     let path = same_Some h.0 k.0 (sym h.1 ∙ k.1) in
     same_Some one other (sym h.2 ∙ subst (λ (p : Path). slice_get p.accesses a ≡ Some other) (sym path) k.2)
 
--- questions of the paths with the same numbers are one
-pub same_asked : (nodes : List Path) (q r : Question) → IsAskedOf nodes q → IsAskedOf nodes r → numbers_of q ≡ numbers_of r → q ≡ r
-same_asked nodes q r a b e =
-    let own = subst (λ (p : QuestionNumbers). AsksOf nodes p a.mine a.theirs) e a.asked in
-    let mine = same_access nodes r.x r.a a.mine b.mine own.at_mine b.asked.at_mine in
-    let theirs = same_access nodes r.y r.b a.theirs b.theirs own.at_theirs b.asked.at_theirs in
-    let mine_kind : q.mine ≡ r.mine = a.mine_kind ∙ ap (λ (c : Access). c.kind) mine ∙ sym b.mine_kind in
-    let their_kind : q.theirs ≡ r.theirs = a.their_kind ∙ ap (λ (c : Access). c.kind) theirs ∙ sym b.their_kind in
-    λ i. record { x = (e i).x; a = (e i).a; y = (e i).y; b = (e i).b; mine = mine_kind i; theirs = their_kind i }
-
 -- ---- what a mark gives, the paths have
 
 module _ (P : QuestionNumbers → Access → Access → Type 0) (nodes : List Path) where
@@ -77,7 +67,7 @@ module _ (P : QuestionNumbers → Access → Access → Type 0) (nodes : List Pa
     question asks x y from to kinds holds = record { question = numbers_of q; from = from; to = to; mine = a.mine; theirs = a.theirs; asked = a.asked; kinds = kinds; holds = holds }
 
     pub edge-from_mark : (meets ≡ true → P (numbers_of q) a.mine a.theirs) → (x y : ℕ) → gives_edge x y (mark_by q meets exposed) ≡ true → EdgeOf P nodes x y
-    edge-from_mark holds x y h = go (or_cases ((mark_by q meets exposed).forward && (q.x == x && q.y == y)) _ h)
+    edge-from_mark holds x y h = go (or_cases ((mark_by q meets exposed).gives.forward && (q.x == x && q.y == y)) _ h)
       where
         forward : q.x ≡ x → q.y ≡ y → P (numbers_of q) a.mine a.theirs → (asks_read_write q.mine q.theirs ≡ true) ⊎ (both_write q.mine q.theirs ≡ true) → EdgeOf P nodes x y
         forward from to p (inl k) = inl (question (λ q. AsksReadWrite) x y from to (read_write-true _ _ (moved asks_read_write k)) p)
@@ -87,21 +77,21 @@ module _ (P : QuestionNumbers → Access → Access → Type 0) (nodes : List Pa
         backward to from p (inl k) = inr (inl (question (λ q. AsksWriteRead) y x from to (write_read-true _ _ (moved asks_write_read k)) p))
         backward to from p (inr k) = inr (inr (inr (question AsksWriteWrite y x from to (writes-asked (numbers_of q) _ _ a.asks (moved both_write k)) p)))
 
-        go : (((mark_by q meets exposed).forward && (q.x == x && q.y == y)) ≡ true) ⊎ (((mark_by q meets exposed).backward && (q.y == x && q.x == y)) ≡ true) → EdgeOf P nodes x y
+        go : (((mark_by q meets exposed).gives.forward && (q.x == x && q.y == y)) ≡ true) ⊎ (((mark_by q meets exposed).gives.backward && (q.y == x && q.x == y)) ≡ true) → EdgeOf P nodes x y
         go (inl h) =
-            let p = and_parts (mark_by q meets exposed).forward _ h in
+            let p = and_parts (mark_by q meets exposed).gives.forward _ h in
             let ends = and_parts (q.x == x) _ p.1 in
             let g = and_parts meets _ p.0 in
             forward (eqb-true _ _ ends.0) (eqb-true _ _ ends.1) (holds g.0) (or_cases _ _ g.1)
         go (inr h) =
-            let p = and_parts (mark_by q meets exposed).backward _ h in
+            let p = and_parts (mark_by q meets exposed).gives.backward _ h in
             let ends = and_parts (q.y == x) _ p.1 in
             let g = and_parts meets _ p.0 in
             backward (eqb-true _ _ ends.0) (eqb-true _ _ ends.1) (holds g.0) (or_cases _ _ g.1)
 
     pub vulnerable-from_mark : (AsksReadWrite a.mine.kind a.theirs.kind → exposed ≡ true → P (numbers_of q) a.mine a.theirs) → (x y : ℕ) → gives_vulnerable x y (mark_by q meets exposed) ≡ true → HasReadWrite P nodes x y
     vulnerable-from_mark holds x y h =
-        let p = and_parts (mark_by q meets exposed).vulnerable _ h in
+        let p = and_parts (mark_by q meets exposed).gives.vulnerable _ h in
         let ends = and_parts (q.x == x) _ p.1 in
         let g = and_parts exposed _ p.0 in
         let asks = read_write-true _ _ (moved asks_read_write g.1) in
@@ -151,7 +141,7 @@ module _ (P : QuestionNumbers → Access → Access → Type 0) (nodes : List Pa
       question = as_asked;
       asked = is_asked;
       holds = h.holds;
-      gives = λ meets exposed m. or_right ((mark_by as_asked meets exposed).forward && (h.question.x == y && h.question.y == x)) _ (and_from _ _ (and_from _ _ m k) (and_from _ _ (eq-eqb _ _ h.to) (eq-eqb _ _ h.from)));
+      gives = λ meets exposed m. or_right ((mark_by as_asked meets exposed).gives.forward && (h.question.x == y && h.question.y == x)) _ (and_from _ _ (and_from _ _ m k) (and_from _ _ (eq-eqb _ _ h.to) (eq-eqb _ _ h.from)));
     }
 
     vulnerable-given : asks_read_write h.mine.kind h.theirs.kind ≡ true → GivesVulnerable x y h.question

@@ -13,7 +13,7 @@ pub use accesses::facts::{
     QuestionFacts, closed_facts, column_or_zero, mine_node, question_facts, second_terms,
     their_node,
 };
-pub use accesses::mark::{EdgeTables, Mark, mark_by};
+pub use accesses::mark::{EdgeTables, Gives, Mark, gives_by, mark_by};
 pub use accesses::places::{Placed, all_places, program_places};
 pub use accesses::questions::{
     Question, asks, asks_read_write, may_cover, may_touch, question_between,

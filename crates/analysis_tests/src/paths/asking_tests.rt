@@ -5,8 +5,8 @@ use crate::examples::{paths_of, wide_paths};
 use crate::told::is_told;
 use example_sets::{KEPT_PAY, TRANSFER};
 use prog_paths::{
-    Kind, Mark, Path, Placed, Question, all_places, asks, asks_read_write, is_too_large, mark_by,
-    may_cover, may_touch, question_between, question_count,
+    Gives, Kind, Mark, Path, Placed, Question, all_places, asks, asks_read_write, gives_by,
+    is_too_large, mark_by, may_cover, may_touch, question_between, question_count,
 };
 use std::alloc::{AllocError, Global};
 use std::process::Abort;
@@ -78,13 +78,19 @@ fn mark_of(mine: Kind, theirs: Kind, meets: bool, exposed: bool) -> Mark {
     mark_by(question, meets, exposed)
 }
 
+/// Whether there is an edge from the first, one back, a vulnerable one.
+fn edges_of(gives: Gives) -> [bool; 3] {
+    [gives.forward, gives.backward, gives.vulnerable]
+}
+
 #[test]
 fn questions_give_edges_by_their_kinds(rt: HostRuntime) {
     for &(mine, theirs, meets, exposed, edges) in MARKS.iter() {
+        let gives = gives_by(mine, theirs, meets, exposed);
+        assert!(rt; edges_of(gives) == edges, "{mine:?} {theirs:?}");
         let mark = mark_of(mine, theirs, meets, exposed);
-        let given = [mark.forward, mark.backward, mark.vulnerable];
         assert!(rt;
-            (mark.x, mark.y, given) == (4, 2, edges),
+            (mark.x, mark.y, edges_of(mark.gives)) == (4, 2, edges),
             "{mine:?} {theirs:?}"
         );
     }

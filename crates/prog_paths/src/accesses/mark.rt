@@ -1,20 +1,41 @@
 //! What a question gives, and how it is entered into square tables.
 ghost use Rattle.std.specs.Prelude.{◌≡◌, IfOk};
 ghost use Rattle.order_facts.specs.Square.{Enters, IsEmptySquare};
-ghost use Rattle.prog_paths.specs.Marks.{mark_by, gives_edge, gives_vulnerable, EntersMark};
+ghost use Rattle.prog_paths.specs.Marks.{gives_by, mark_by, gives_edge, gives_vulnerable};
+ghost use Rattle.prog_paths.specs.Marks.{EntersMark};
 
 use crate::accesses::questions::{Question, asks_read_write, asks_write_read, both_write};
 use order_facts::Square;
+use prog_check::Kind;
 use std::alloc::{AllocError, Global};
 
-/// What one question gives: an edge from the node `x` to the node `y`, one back, a vulnerable one.
+/// What two accesses give between their nodes: an edge from the first node to the second, one back,
+/// a vulnerable one.
+#[derive(Clone, Copy)]
+pub struct Gives {
+    pub forward: bool,
+    pub backward: bool,
+    pub vulnerable: bool,
+}
+
+/// What accesses of two kinds give, by whether they may meet and whether they count as exposed.
+#[inline]
+pub fn gives_by(mine: Kind, theirs: Kind, meets: bool, exposed: bool) -> Gives
+    ensures { result ≡ gives_by mine theirs meets exposed }
+{
+    Gives {
+        forward: meets && (asks_read_write(mine, theirs) || both_write(mine, theirs)),
+        backward: meets && (asks_write_read(mine, theirs) || both_write(mine, theirs)),
+        vulnerable: exposed && asks_read_write(mine, theirs),
+    }
+}
+
+/// What a question gives between its nodes `x` and `y`.
 #[derive(Clone, Copy)]
 pub struct Mark {
     pub x: usize,
     pub y: usize,
-    pub forward: bool,
-    pub backward: bool,
-    pub vulnerable: bool,
+    pub gives: Gives,
 }
 
 /// What a question gives, by whether its accesses may meet and whether it counts as exposed.
@@ -22,19 +43,10 @@ pub struct Mark {
 pub fn mark_by(question: Question, meets: bool, exposed: bool) -> Mark
     ensures { result ≡ mark_by question meets exposed }
 {
-    let Question {
-        x,
-        y,
-        mine,
-        theirs,
-        ..
-    } = question;
     Mark {
-        x,
-        y,
-        forward: meets && (asks_read_write(mine, theirs) || both_write(mine, theirs)),
-        backward: meets && (asks_write_read(mine, theirs) || both_write(mine, theirs)),
-        vulnerable: exposed && asks_read_write(mine, theirs),
+        x: question.x,
+        y: question.y,
+        gives: gives_by(question.mine, question.theirs, meets, exposed),
     }
 }
 
@@ -44,10 +56,10 @@ fn enter_edges(edges: &mut Square, mark: Mark)
     ensures { Enters edges.old edges.new (λ x y. gives_edge x y mark) }
 {
     if mark.x < edges.size() && mark.y < edges.size() {
-        if mark.forward {
+        if mark.gives.forward {
             edges.raise(mark.x, mark.y);
         }
-        if mark.backward {
+        if mark.gives.backward {
             edges.raise(mark.y, mark.x);
         }
     }
@@ -58,7 +70,7 @@ fn enter_edges(edges: &mut Square, mark: Mark)
 fn enter_vulnerable(vulnerable: &mut Square, mark: Mark)
     ensures { Enters vulnerable.old vulnerable.new (λ x y. gives_vulnerable x y mark) }
 {
-    if mark.vulnerable && mark.x < vulnerable.size() && mark.y < vulnerable.size() {
+    if mark.gives.vulnerable && mark.x < vulnerable.size() && mark.y < vulnerable.size() {
         vulnerable.raise(mark.x, mark.y);
     }
 }

@@ -9,6 +9,6 @@ returns-then-not-can_meet-clause-entered c =
 
 pub returns-clause-entered : goal.returns-clause-entered
 returns-clause-entered c =
-    λ e at. EntersAnswer-given e c.args.tables.now c.enter_given.new.tables _ _ _ c.given_by-given.result c.first_nodes-firsts.result.now c.second_nodes-seconds.result.now
-    c.given_by-given.ensures (c.kinds-mine.ensures e at) (c.verdict-verdict.ensures e at) (c.first_nodes-firsts.ensures e at) (c.second_nodes-seconds.ensures e at)
+    λ e at. EntersAnswer-given e c.args.tables.now c.enter_given.new.tables _ _ _ _ _ c.gives_by-given.result c.first_nodes-firsts.result.now c.second_nodes-seconds.result.now
+    c.can_meet-2.ensures c.is_exposed.ensures c.gives_by-given.ensures (c.kinds-mine.ensures e at) (c.verdict-verdict.ensures e at) (c.first_nodes-firsts.ensures e at) (c.second_nodes-seconds.ensures e at)
     c.enter_given.ensures.edges c.enter_given.ensures.vulnerable
