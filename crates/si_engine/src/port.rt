@@ -51,16 +51,12 @@ impl<T: Read> Source for Port<T> {
             self.broken = true;
             return Err(DeviceFault);
         }
-        match self.inner.read(buffer) {
-            Ok(count) => {
-                self.pulls += 1;
-                Ok(count)
-            }
-            Err(_) => {
-                self.broken = true;
-                Err(DeviceFault)
-            }
-        }
+        let Ok(count) = self.inner.read(buffer) else {
+            self.broken = true;
+            return Err(DeviceFault);
+        };
+        self.pulls += 1;
+        Ok(count)
     }
 
     fn failed(&self) -> bool {
@@ -78,14 +74,8 @@ impl<T: Write> Sink for Port<T> {
             return Err(DeviceFault);
         }
         match self.inner.write(bytes) {
-            Ok(count) => {
-                if count == 0 && !bytes.is_empty() {
-                    self.broken = true;
-                    return Err(DeviceFault);
-                }
-                Ok(count)
-            }
-            Err(_) => {
+            Ok(count) if count > 0 || bytes.is_empty() => Ok(count),
+            _ => {
                 self.broken = true;
                 Err(DeviceFault)
             }

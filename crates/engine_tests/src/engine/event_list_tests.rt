@@ -31,7 +31,7 @@ fn check_next(rt: &impl Abort, reader: &mut EventReader<'_>, wanted: &(&str, usi
 }
 
 fn check_all(rt: &impl Abort, events: &Events, wanted: &[(&str, usize)]) {
-    assert!(rt; events.len() == wanted.len());
+    assert!(rt; (events.len(), events.is_empty()) == (wanted.len(), wanted.is_empty()));
     let mut reader = events.reader();
     for wanted in wanted {
         check_next(rt, &mut reader, wanted);

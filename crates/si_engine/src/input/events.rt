@@ -1,6 +1,6 @@
 //! Events in eight bytes each.
 ghost use Rattle.std.specs.Prelude.{◌≡◌, [], ◌∷◌, ◌++◌, length, Some, OnOk, OnErr, IfSome};
-ghost use Rattle.std.specs.Prelude.{MatchOption, IsSome, ◌↔◌};
+ghost use Rattle.std.specs.Prelude.{MatchOption, IsSome, IsTrue, ◌↔◌};
 ghost use Rattle.si_engine.specs.Events.{next_event, said_by, HasItem};
 
 use crate::event::Event;
@@ -82,6 +82,12 @@ impl Events {
         ensures { result ≡ length self.now }
     {
         self.items.len()
+    }
+
+    pub fn is_empty(&self) -> bool
+        ensures { IsTrue result ↔ (self.now ≡ []) }
+    {
+        self.len() == 0
     }
 
     /// Adds an event behind the others.

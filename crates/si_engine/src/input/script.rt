@@ -85,7 +85,7 @@ impl Script {
     {
         match command {
             Command::Skip => {}
-            Command::Row(row) => add_row(&mut self.rows, line, self.events.len() != 0, row)?,
+            Command::Row(row) => add_row(&mut self.rows, line, !self.events.is_empty(), row)?,
             Command::Event(event) => self.add_event(line, event)?,
             Command::Steps { instance, times } => self.add_steps(line, instance, times)?,
         }
