@@ -1,9 +1,7 @@
 //! The analysis of a set.
-ghost use Rattle.std.specs.Prelude.{◌≡◌, ◌≤◌, length, IfOk, MatchResult, OnOk, Err};
+ghost use Rattle.std.specs.Prelude.{◌≡◌, IfOk, MatchResult, OnOk, Err};
 ghost use Rattle.prog_tree.specs.Tree.{draft_tree};
 ghost use Rattle.prog_check.specs.Paths.{paths_of};
-ghost use Rattle.prog_paths.specs.Questions.{questions_of};
-ghost use Rattle.prog_paths.specs.Limits.{most_questions};
 ghost use Rattle.prog_paths.specs.Few.{AreFew};
 ghost use Rattle.si_repair.specs.declared.fault.AnalyseFault as AnalyseFault;
 ghost use Rattle.prog_paths.specs.StaticGraph.{IsDangerous};
@@ -17,7 +15,7 @@ use crate::fault::AnalyseFault;
 use crate::finding::Finding;
 use conflict_pairs::{ClassTable, class_table, class_table_par};
 use dep_graph::{Danger, Graph};
-use prog_check::{Path, ProgramSet};
+use prog_check::ProgramSet;
 use prog_paths::paths;
 use std::alloc::{AllocError, Global};
 use std::thread::Threads;
@@ -39,43 +37,6 @@ fn levels_or_danger(
     }
 }
 
-/// What the answers to all questions of some paths come to.
-fn finding_of(alloc: Global, paths: &[Path], table: &ClassTable<'_>) -> Result<Finding, AllocError>
-    requires paths { table.now.paths ≡ paths.now }
-    requires few { AreFew paths.now }
-    requires in_bounds { length (questions_of paths.now) ≤ most_questions }
-    ensures { IfOk result (IsRightFinding paths.now) }
-{
-    match levels_or_danger(alloc, table)? {
-        Err(danger) => Ok(Finding::Refused(danger)),
-        Ok(levels) => {
-            let entries = entries_of(alloc, table)?;
-            Ok(Finding::Robust(certificate_of(alloc, paths, entries, levels)?))
-        }
-    }
-}
-
-/// The same, by several threads where there are many questions.
-fn finding_of_par(
-    rt: &(impl Threads + Sync),
-    alloc: Global,
-    paths: &[Path],
-    table: &ClassTable<'_>,
-) -> Result<Finding, AllocError>
-    requires paths { table.now.paths ≡ paths.now }
-    requires few { AreFew paths.now }
-    requires in_bounds { length (questions_of paths.now) ≤ most_questions }
-    ensures { IfOk result (IsRightFinding paths.now) }
-{
-    match levels_or_danger(alloc, table)? {
-        Err(danger) => Ok(Finding::Refused(danger)),
-        Ok(levels) => {
-            let entries = entries_of_par(rt, alloc, table)?;
-            Ok(Finding::Robust(certificate_of(alloc, paths, entries, levels)?))
-        }
-    }
-}
-
 /// The certificate that a set is robust, or its least dangerous structure.
 pub fn certify(alloc: Global, set: &ProgramSet) -> Result<Finding, AnalyseFault>
     ensures finding { IfOk result
@@ -85,8 +46,13 @@ pub fn certify(alloc: Global, set: &ProgramSet) -> Result<Finding, AnalyseFault>
 {
     let paths = paths(alloc, set)?;
     let table = class_table(alloc, &paths)?;
-    let finding = finding_of(alloc, &paths, &table)?;
-    Ok(finding)
+    let levels = match levels_or_danger(alloc, &table)? {
+        Ok(levels) => levels,
+        Err(danger) => return Ok(Finding::Refused(danger)),
+    };
+    let entries = entries_of(alloc, &table)?;
+    let certificate = certificate_of(alloc, &paths, entries, levels)?;
+    Ok(Finding::Robust(certificate))
 }
 
 /// As `certify`; where there are many questions, several threads answer them.
@@ -102,6 +68,11 @@ pub fn certify_par(
 {
     let paths = paths(alloc, set)?;
     let table = class_table_par(rt, alloc, &paths)?;
-    let finding = finding_of_par(rt, alloc, &paths, &table)?;
-    Ok(finding)
+    let levels = match levels_or_danger(alloc, &table)? {
+        Ok(levels) => levels,
+        Err(danger) => return Ok(Finding::Refused(danger)),
+    };
+    let entries = entries_of_par(rt, alloc, &table)?;
+    let certificate = certificate_of(alloc, &paths, entries, levels)?;
+    Ok(Finding::Robust(certificate))
 }
