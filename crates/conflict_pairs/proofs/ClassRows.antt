@@ -25,7 +25,7 @@ use Rattle.conflict_pairs.specs.declared.class_pairs.Row.{Row}
 use Rattle.conflict_pairs.specs.declared.pairing.PlacePair.{PlacePair}
 use Rattle.conflict_pairs.specs.Alike.{IsLikeAt}
 use Rattle.conflict_pairs.specs.Classes.{AreClassesOf, class_at, starts_from}
-use Rattle.conflict_pairs.specs.ClassPairs.{IsInRow, IsPairOf, row_at, AreClassPairs, AreLastPlaces, AsksOneOf, HasPairWith, AddsRow}
+use Rattle.conflict_pairs.specs.ClassPairs.{IsInRow, IsPairOf, row_at, AreClassPairs, HaveLastPlaces, AsksOneOf, HasPairWith, AddsRow}
 use Rattle.conflict_pairs.specs.Pairing.{IsAskedBetween, StandsAt, no_place, place_at}
 use Rattle.conflict_pairs.proofs.Likeness.{access_unique}
 use Rattle.conflict_pairs.proofs.OneClass.{place-stands}
@@ -185,12 +185,12 @@ module _ (paths : List Path) (k : AccessClasses) (h : AreClassesOf paths k) wher
   -- accesses of one class are alike
   alike-of : (m n : ℕ) → m < length (all_from 0 paths) → n < length (all_from 0 paths) → class_at k m ≡ class_at k n → AreAlike (place_at (all_from 0 paths) m).access (place_at (all_from 0 paths) n).access
   alike-of m n lt le same =
-      let like = h.classed.alike m n lt le same in
+      let like = (h.classed.alike m n lt le same).accesses in
       let p = place_at (all_from 0 paths) m in
       let q = place_at (all_from 0 paths) n in
-      let mine = access_unique paths p.node p.number like.mine p.access like.at_mine (all_places_stand paths m no_place lt) in
+      let one = access_unique paths p.node p.number like.one p.access like.at_one (all_places_stand paths m no_place lt) in
       let other = access_unique paths q.node q.number like.other q.access like.at_other (all_places_stand paths n no_place le) in
-      subst (λ (b : Access). AreAlike p.access b) other (subst (λ (a : Access). AreAlike a like.other) mine like.alike)
+      subst (λ (b : Access). AreAlike p.access b) other (subst (λ (a : Access). AreAlike a like.other) one like.alike)
 
   pub alike-places : (m n : ℕ) → m < length L → n < length L → class_at k m ≡ class_at k n → AreAlike (place_at L m).access (place_at L n).access
   alike-places = subst (λ (l : List Placed). (m n : ℕ) → m < length l → n < length l → class_at k m ≡ class_at k n → AreAlike (place_at l m).access (place_at l n).access) (sym h.places_are) alike-of
@@ -215,7 +215,7 @@ module _ (paths : List Path) (k : AccessClasses) (h : AreClassesOf paths k) wher
       (subst (λ (l : List Placed). All (StandsAt (starts_from 0 paths) l) l) (sym h.places_are) (all-stand paths))
 
   -- so have the last ones
-  pub lasts-at : (places : List Placed) → AreLastPlaces k places → All (StandsAt k.starts.items L) places
+  pub lasts-at : (places : List Placed) → HaveLastPlaces k places → All (StandsAt k.starts.items L) places
   lasts-at places last = All-weaker (Contains L) (StandsAt k.starts.items L) (λ p there. All-contains (StandsAt k.starts.items L) L p all-at there) places last.there
 
   -- two placed accesses of one node and one number are the same

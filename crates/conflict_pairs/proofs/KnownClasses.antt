@@ -1,68 +1,11 @@
 -- What is known of classes, one access more at a time.
-use Rattle.std.proofs.Common.{◌≡◌, ◌≢◌, ℕ, ◌<◌, ◌≤◌, ◌+◌, ◌⊎◌, inl, inr, ◌↔◌, List, Vec, Global, [], ◌∷◌, ◌++◌, length, get_or, set, refl, sym, subst, ap, ◌∙◌, arith, Contains, Some}
+use Rattle.std.proofs.Common.{◌≡◌, ℕ, ◌<◌, ◌≤◌, ◌+◌, ◌⊎◌, inl, inr, ◌↔◌, List, Vec, Global, [], length, get_or, set, refl, sym, subst, ap, ◌∙◌, arith, Contains, Some}
 use Rattle.std.proofs.lemmas.Bool.{cases_lt, cases_eq}
-use Rattle.std.proofs.lemmas.List.{length-set, get_or-set_same, get_or-set_other, get_or_push, get_or_append_left, length-append}
+use Rattle.std.proofs.lemmas.List.{length-set, get_or-set_same, get_or-set_other}
 use Rattle.std.proofs.lemmas.Option.{slice_get-get_or, slice_get_past}
 use Rattle.prog_paths.specs.declared.accesses.places.Placed.{Placed}
-use Rattle.conflict_pairs.specs.Classes.{HasMark, HasAccessOf, nodes_in, nodes_at}
+use Rattle.conflict_pairs.specs.Classes.{HasAccessOf, nodes_in, nodes_at}
 use Rattle.conflict_pairs.specs.Pairing.{place_at}
-
--- ---- an access is entered under the number of its class
-
-module _ (Stands : ℕ → ℕ → Type 0) (numbers old : List ℕ) (k : ℕ) (inside : k < length numbers) (class : get_or numbers k 0 < length old) where
-  pub mark-entered : (n : ℕ) → (get_or numbers n 0 ≡ get_or numbers k 0 → Stands n k) → (get_or numbers n 0 ≢ get_or numbers k 0 → HasMark Stands numbers old n)
-      → HasMark Stands numbers (set old (get_or numbers k 0) k) n
-  mark-entered n here there = by (cases_eq (get_or numbers n 0) (get_or numbers k 0))
-    where
-      new : List ℕ
-      new = set old (get_or numbers k 0) k
-
-      by : (get_or numbers n 0 ≡ get_or numbers k 0) ⊎ (get_or numbers n 0 ≡ get_or numbers k 0 → ⊥) → HasMark Stands numbers (set old (get_or numbers k 0) k) n
-      by (inl e) =
-          let is : get_or (set old (get_or numbers k 0) k) (get_or numbers n 0) 0 ≡ k =
-          ap (λ (c : ℕ). get_or (set old (get_or numbers k 0) k) c 0) e ∙ get_or-set_same old (get_or numbers k 0) k 0 class in
-          let long = length-set old (get_or numbers k 0) k in
-          record {
-            class_within = omega (arith, e, class, long);
-            within = omega (arith, is, inside);
-            stands = subst (λ (m : ℕ). Stands n m) (sym is) (here e);
-            same = ap (λ (m : ℕ). get_or numbers m 0) is ∙ sym e;
-          }
-      by (inr e) =
-          let its = there e in
-          let is : get_or (set old (get_or numbers k 0) k) (get_or numbers n 0) 0 ≡ get_or old (get_or numbers n 0) 0 =
-          get_or-set_other old (get_or numbers k 0) (get_or numbers n 0) k 0 e in
-          let long = length-set old (get_or numbers k 0) k in
-          let class_in = its.class_within in
-          let mark_in = its.within in
-          record {
-            class_within = omega (arith, class_in, long);
-            within = omega (arith, is, mark_in);
-            stands = subst (λ (m : ℕ). Stands n m) (sym is) its.stands;
-            same = ap (λ (m : ℕ). get_or numbers m 0) is ∙ its.same;
-          }
-
--- the first accesses, of those from the next one on
-pub firsts-more : (numbers old new : List ℕ) (k : ℕ) → k < length numbers → get_or numbers k 0 < length old → new ≡ set old (get_or numbers k 0) k
-    → ((n : ℕ) → k < n → n < length numbers → HasMark (λ n first. first ≤ n) numbers old n) → (n : ℕ) → k ≤ n → n < length numbers → HasMark (λ n first. first ≤ n) numbers new n
-firsts-more numbers old new k inside class added behind n le lt =
-    subst (λ (l : List ℕ). HasMark (λ n first. first ≤ n) numbers l n) (sym added)
-    (mark-entered (λ n first. first ≤ n) numbers old k inside class n (λ e. le) (λ e. behind n (later e (cases_lt k n)) lt))
-  where
-    later : (get_or numbers n 0 ≡ get_or numbers k 0 → ⊥) → (k < n) ⊎ (n ≤ k) → k < n
-    later e (inl a) = a
-    later e (inr b) = let same : n ≡ k = omega (arith, le, b) in absurd (e (ap (λ (m : ℕ). get_or numbers m 0) same))
-
--- the last accesses, of those before the next one
-pub lasts-more : (numbers old new : List ℕ) (k : ℕ) → k < length numbers → get_or numbers k 0 < length old → new ≡ set old (get_or numbers k 0) k
-    → ((n : ℕ) → n < k → n < length numbers → HasMark (λ n last. n ≤ last) numbers old n) → (n : ℕ) → n < k + 1 → n < length numbers → HasMark (λ n last. n ≤ last) numbers new n
-lasts-more numbers old new k inside class added before n lt within =
-    subst (λ (l : List ℕ). HasMark (λ n last. n ≤ last) numbers l n) (sym added)
-    (mark-entered (λ n last. n ≤ last) numbers old k inside class n (λ e. omega (arith, lt)) (λ e. before n (earlier e (cases_lt n k)) within))
-  where
-    earlier : (get_or numbers n 0 ≡ get_or numbers k 0 → ⊥) → (n < k) ⊎ (k ≤ n) → n < k
-    earlier e (inl a) = a
-    earlier e (inr b) = let same : n ≡ k = omega (arith, lt, b) in absurd (e (ap (λ (m : ℕ). get_or numbers m 0) same))
 
 -- ---- lists of nodes
 
@@ -80,23 +23,6 @@ nodes-other lists c d v other = by (cases_lt d (length lists))
     by : (d < length lists) ⊎ (length lists ≤ d) → nodes_at (set lists c v) d ≡ nodes_at lists d
     by (inl a) = ap nodes_in (slice_get-get_or (set lists c v) d v (omega (arith, a, long)) ∙ ap Some (get_or-set_other lists c d v v other) ∙ sym (slice_get-get_or lists d v a))
     by (inr b) = ap nodes_in (slice_get_past (set lists c v) d (omega (arith, b, long)) ∙ sym (slice_get_past lists d b))
-
--- one list without nodes more
-pub empty-more : (old new : List (Vec ℕ Global)) (v : Vec ℕ Global) → new ≡ old ++ v ∷ [] → v.items ≡ [] → ((c : ℕ) → nodes_at old c ≡ []) → (c : ℕ) → nodes_at new c ≡ []
-empty-more old new v added none h c = ap (λ (l : List (Vec ℕ Global)). nodes_at l c) added ∙ by (cases_lt c (length old))
-  where
-    long : length (old ++ v ∷ []) ≡ length old + 1
-    long = length-append old (v ∷ [])
-
-    by : (c < length old) ⊎ (length old ≤ c) → nodes_at (old ++ v ∷ []) c ≡ []
-    by (inl a) =
-        ap nodes_in (slice_get-get_or (old ++ v ∷ []) c v (omega (arith, a, long)) ∙ ap Some (get_or_append_left old (v ∷ []) v c a) ∙ sym (slice_get-get_or old c v a))
-        ∙ h c
-    by (inr b) = at_end (cases_eq c (length old))
-      where
-        at_end : (c ≡ length old) ⊎ (c ≡ length old → ⊥) → nodes_at (old ++ v ∷ []) c ≡ []
-        at_end (inl e) = ap nodes_in (slice_get-get_or (old ++ v ∷ []) c v (omega (arith, e, long)) ∙ ap Some (get_or_push old v v c (sym e))) ∙ none
-        at_end (inr e) = ap nodes_in (slice_get_past (old ++ v ∷ []) c (omega (arith, b, e, long)))
 
 -- a list that is read has the nodes at its place
 pub nodes-read : (lists : List (Vec ℕ Global)) (c : ℕ) (v d : Vec ℕ Global) → c < length lists → v ≡ get_or lists c d → v.items ≡ nodes_at lists c

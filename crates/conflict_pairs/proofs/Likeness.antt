@@ -132,11 +132,7 @@ access_unique paths x a one other h k =
 -- accesses of one class are alike, as the covers of their nodes
 pub like_at-classes : (paths : List Path) (classes : List ℕ) (p q : Placed) → AreCoverClasses paths classes → IsAt paths p → IsAt paths q → AreOneClass classes p q → IsLikeAt paths p.node p.number q.node q.number
 like_at-classes paths classes p q classed at_p at_q h = record {
-  mine = p.access;
-  other = q.access;
-  at_mine = at_p;
-  at_other = at_q;
-  alike = h.alike;
+  accesses = record { one = p.access; other = q.access; at_one = at_p; at_other = at_q; alike = h.alike };
   covers =
       let within_p = slice_get_within paths p.node at_p.0 at_p.1 in
       let within_q = slice_get_within paths q.node at_q.0 at_q.1 in
@@ -154,8 +150,8 @@ module _ (paths : List Path) (q : Question) (asked : IsAsked paths q) where
 
   pub like-own : IsLike paths q q
   like-own = (
-    record { mine = asked.first.access; other = asked.first.access; at_mine = asked-first; at_other = asked-first; alike = alike-own asked.first.access; covers = covers-own (accesses_at paths q.x) },
-    record { mine = asked.second.access; other = asked.second.access; at_mine = asked-second; at_other = asked-second; alike = alike-own asked.second.access; covers = covers-own (accesses_at paths q.y) },
+    record { accesses = record { one = asked.first.access; other = asked.first.access; at_one = asked-first; at_other = asked-first; alike = alike-own asked.first.access }; covers = covers-own (accesses_at paths q.x) },
+    record { accesses = record { one = asked.second.access; other = asked.second.access; at_one = asked-second; at_other = asked-second; alike = alike-own asked.second.access }; covers = covers-own (accesses_at paths q.y) },
   )
 
 -- ---- verdicts
@@ -201,15 +197,15 @@ judged-alike xs ys a b c d v e f h =
 -- what is said of a question is said of one that is like it
 pub judged-like : (paths : List Path) (q r : Question) (v : Verdict) → IsLike paths q r → IsJudgedAt paths r v → IsJudgedAt paths q v
 judged-like paths q r v like h mine theirs at_mine at_theirs =
-    let first = like.0 in
-    let second = like.1 in
-    let is_mine = access_unique paths q.x q.a first.mine mine first.at_mine at_mine in
-    let is_theirs = access_unique paths q.y q.b second.mine theirs second.at_mine at_theirs in
+    let first = like.0.accesses in
+    let second = like.1.accesses in
+    let is_mine = access_unique paths q.x q.a first.one mine first.at_one at_mine in
+    let is_theirs = access_unique paths q.y q.b second.one theirs second.at_one at_theirs in
     subst (λ (z : Access). IsJudged (accesses_at paths q.x) (accesses_at paths q.y) z theirs v) is_mine
-    (subst (λ (z : Access). IsJudged (accesses_at paths q.x) (accesses_at paths q.y) first.mine z v) is_theirs
-    (judged-lists (accesses_at paths r.x) (accesses_at paths r.y) (accesses_at paths q.x) (accesses_at paths q.y) first.mine second.mine
-    (first.covers.1, first.covers.0) (second.covers.1, second.covers.0) v
-    (judged-alike (accesses_at paths r.x) (accesses_at paths r.y) first.other second.other first.mine second.mine v (alike-back first.mine first.other first.alike) (alike-back second.mine second.other second.alike)
+    (subst (λ (z : Access). IsJudged (accesses_at paths q.x) (accesses_at paths q.y) first.one z v) is_theirs
+    (judged-lists (accesses_at paths r.x) (accesses_at paths r.y) (accesses_at paths q.x) (accesses_at paths q.y) first.one second.one
+    (like.0.covers.1, like.0.covers.0) (like.1.covers.1, like.1.covers.0) v
+    (judged-alike (accesses_at paths r.x) (accesses_at paths r.y) first.other second.other first.one second.one v (alike-back first.one first.other first.alike) (alike-back second.one second.other second.alike)
     (h first.other second.other first.at_other second.at_other))))
 
 -- where nothing covers, the facts say the same of accesses that are alike

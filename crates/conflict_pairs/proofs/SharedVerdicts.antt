@@ -1,6 +1,6 @@
 -- Verdicts that several pairs share, one pair more at a time.
 use Rattle.std.proofs.Common.{◌≡◌, ℕ, ◌<◌, ◌+◌, List, [], ◌∷◌, ◌++◌, length, length-append, get_or, take, refl, sym, subst, ap, ◌∙◌, arith}
-use Rattle.std.specs.Prelude.{All, Some, slice_get}
+use Rattle.std.specs.Prelude.{All, Some, slice_get, Result, Ok, Err, IfOk}
 use Rattle.std.specs.List.{AllZip}
 use Rattle.std.proofs.lemmas.List.{get_or_push}
 use Rattle.std.proofs.lemmas.List.Elements.{All-push}
@@ -18,6 +18,11 @@ use Rattle.conflict_pairs.specs.Pairing.{IsAskedBetween, question_at}
 use Rattle.conflict_pairs.specs.Sharing.{IsOnPair}
 use Rattle.conflict_pairs.proofs.Serving.{served-kept, served-within}
 use Rattle.conflict_pairs.proofs.Zipped.{AllZip-more, AllZip-at}
+
+-- what two things say of a value together
+pub IfOk-both : {X E : Type 0} (r : Result X E) (P Q R : X → Type 0) → ((x : X) → P x → Q x → R x) → IfOk r P → IfOk r Q → IfOk r R
+IfOk-both (Ok x) P Q R f p q = f x p q
+IfOk-both (Err e) P Q R f p q = tt
 
 -- ---- the verdict of one pair more
 

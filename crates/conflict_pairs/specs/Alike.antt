@@ -58,13 +58,17 @@ pub record IsAsked (paths : List Path) (q : Question) : Type 0 where
 abbrev pub HasAccess : List Path → ℕ → ℕ → Type 0
 HasAccess paths x a = (access : Access) × IsAccessOf paths x a access
 
--- an access of one node and one of another are alike, and so are the covers of the nodes
-pub record IsLikeAt (paths : List Path) (x a y b : ℕ) : Type 0 where
-  pub mine : Access
+-- an access of one node and one of another are alike
+pub record AreAlikeAt (paths : List Path) (x a y b : ℕ) : Type 0 where
+  pub one : Access
   pub other : Access
-  pub at_mine : IsAccessOf paths x a mine
+  pub at_one : IsAccessOf paths x a one
   pub at_other : IsAccessOf paths y b other
-  pub alike : AreAlike mine other
+  pub alike : AreAlike one other
+
+-- they are, and so are the covers of the nodes
+pub record IsLikeAt (paths : List Path) (x a y b : ℕ) : Type 0 where
+  pub accesses : AreAlikeAt paths x a y b
   pub covers : HaveSameCovers (accesses_at paths x) (accesses_at paths y)
 
 -- two questions are alike on both sides

@@ -31,7 +31,8 @@ row_at rows c = slice_index_or rows c (record { start = 0; end = 0 })
 abbrev pub HasPairIn : AccessClasses → ClassPairs → (c d : ℕ) → Type 0
 HasPairIn k ps c d = (j : ℕ) × IsInRow (row_at ps.rows.items c) j × IsPairOf k ps.pairs.items c d j
 
--- each pair is asked, and each row has pairs of its own class alone: one for each class of which its own asks something
+-- each pair is asked, and each row has pairs of its own class alone: one at least for each class of which its own asks
+-- something
 pub record AreClassPairs (paths : List Path) (k : AccessClasses) (ps : ClassPairs) : Type 0 where
   pub sized : length ps.rows.items ≡ length k.firsts.items
   pub ends : (c : ℕ) → (row_at ps.rows.items c).end ≤ length ps.pairs.items
@@ -44,7 +45,7 @@ pub record AreClassPairs (paths : List Path) (k : AccessClasses) (ps : ClassPair
 -- ---- one row more
 
 -- the places of some accesses, among them each that is the last of its class
-pub record AreLastPlaces (k : AccessClasses) (places : List Placed) : Type 0 where
+pub record HaveLastPlaces (k : AccessClasses) (places : List Placed) : Type 0 where
   pub there : All (Contains k.places.items) places
   pub whole : (n : ℕ) → n < length k.places.items
       → slice_index_or k.lasts.items (class_at k n) 0 ≡ n → Contains places (place_at k.places.items n)

@@ -11,13 +11,15 @@ use Rattle.prog_paths.specs.declared.accesses.questions.Question.{Question}
 use Rattle.conflict_pairs.specs.declared.classes.AccessClasses.{AccessClasses}
 use Rattle.conflict_pairs.specs.declared.class_pairs.ClassPairs.{ClassPairs}
 use Rattle.conflict_pairs.specs.declared.interning.Interned.{Interned}
+use Rattle.conflict_pairs.specs.declared.listing.Listed.{Listed}
 use Rattle.conflict_pairs.specs.declared.pairing.PlacePair.{PlacePair}
 use Rattle.conflict_pairs.specs.declared.verdicts.Verdict.{Verdict}
 use Rattle.conflict_pairs.specs.ClassPairs.{AreClassPairs}
 use Rattle.conflict_pairs.specs.Classes.{AreClassesOf, class_at, nodes_at}
+use Rattle.conflict_pairs.specs.Listed.{IsListedIn, entries_in}
 use Rattle.conflict_pairs.specs.Pairing.{place_at}
 use Rattle.conflict_pairs.specs.Sharing.{ArePairsJudged}
-use Rattle.conflict_pairs.specs.Table.{verdict_at}
+use Rattle.conflict_pairs.specs.Table.{Table, verdict_at}
 use Rattle.conflict_pairs.specs.Verdicts.{IsRight}
 
 -- the kinds of the accesses of two classes, the nodes that have one of the first and those that have one of the second,
@@ -109,3 +111,17 @@ pub record AreClassesJudged (paths : List Path) (k : AccessClasses) (ps : ClassP
   pub classes : AreClassesOf paths k
   pub pairs : AreClassPairs paths k ps
   pub on_pairs : ArePairsJudged paths k.places.items ps.pairs.items judged.values.items judged.numbers.items
+
+-- ---- what is listed of it
+
+-- the table of what is listed
+abbrev pub table_of : Classed → Listed → Table
+table_of t listed = record {
+  paths = t.paths;
+  verdicts = t.verdicts;
+  entries = entries_in t.places t.verdicts listed;
+}
+
+-- each that is listed has two accesses and a verdict of these
+abbrev pub IsListedOf : Classed → Listed → Type 0
+IsListedOf t listed = IsListedIn t.places t.verdicts listed

@@ -1,26 +1,15 @@
 -- Verdicts that serve several pairs are kept once: which of them is on the question of each pair of accesses.
 use Rattle.std.specs.Prelude.{ℕ, ◌+◌, List, [], ◌∷◌, ◌++◌, length, map}
 use Rattle.std.specs.List.{AllZip, flat_map}
-use Rattle.prog_check.specs.declared.path.Access.{Access}
 use Rattle.prog_check.specs.declared.path.Path.{Path}
 use Rattle.prog_paths.specs.declared.accesses.questions.Question.{Question}
-use Rattle.prog_paths.specs.Places.{AreAlike}
-use Rattle.prog_paths.specs.StaticGraph.{IsAccessOf}
 use Rattle.prog_paths.specs.declared.accesses.places.Placed.{Placed}
 use Rattle.conflict_pairs.specs.declared.pairing.PlacePair.{PlacePair}
 use Rattle.conflict_pairs.specs.declared.interning.Interned.{Interned}
 use Rattle.conflict_pairs.specs.declared.verdicts.Verdict.{Verdict}
-use Rattle.conflict_pairs.specs.Alike.{IsJudgedAt, IsOnAsked}
+use Rattle.conflict_pairs.specs.Alike.{AreAlikeAt, IsJudgedAt, IsOnAsked}
 use Rattle.conflict_pairs.specs.Interning.{IsServed, AreInterned}
 use Rattle.conflict_pairs.specs.Pairing.{question_at}
-
--- two accesses of the paths are alike
-pub record AreAlikeAt (paths : List Path) (x a y b : ℕ) : Type 0 where
-  pub one : Access
-  pub other : Access
-  pub at_one : IsAccessOf paths x a one
-  pub at_other : IsAccessOf paths y b other
-  pub alike : AreAlike one other
 
 -- the accesses of two questions are alike, side by side
 abbrev pub AreAlikeSides : List Path → Question → Question → Type 0

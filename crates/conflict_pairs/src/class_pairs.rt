@@ -1,12 +1,13 @@
 //! Pairs of classes of which one asks something of the other.
-ghost use Rattle.std.specs.Prelude.{◌≡◌, ◌<◌, ◌≤◌, ◌+◌, ◌^◌, length, All, IfOk, vec_len, vec_capacity};
-ghost use Rattle.conflict_pairs.specs.ClassPairs.{AddsRow, AreClassPairs, AreLastPlaces};
+ghost use Rattle.std.specs.Prelude.{◌≡◌, ◌<◌, ◌≤◌, ◌+◌, ◌^◌, length, All, IfOk};
+ghost use Rattle.std.specs.Prelude.{vec_len, vec_capacity};
+ghost use Rattle.conflict_pairs.specs.ClassPairs.{AddsRow, AreClassPairs, HaveLastPlaces};
 ghost use Rattle.conflict_pairs.specs.Classes.{AreClassesOf};
-ghost use Rattle.conflict_pairs.specs.Pairing.{StandsAt, place_at};
+ghost use Rattle.conflict_pairs.specs.Pairing.{StandsAt};
 
-use crate::classes::AccessClasses;
+use crate::classes::{AccessClasses, number_of};
 use crate::interning::number_at;
-use crate::pairing::{PlacePair, number_among};
+use crate::pairing::PlacePair;
 use prog_check::Path;
 use prog_paths::{Changers, Placed, asks};
 use std::alloc::{AllocError, Global};
@@ -31,7 +32,7 @@ fn last_places(alloc: Global, classes: &AccessClasses) -> Result<Vec<Placed>, Al
     requires one_each { length classes.now.numbers.items
         ≡ length classes.now.places.items }
     requires within { All (λ c. c < length classes.now.lasts.items) classes.now.numbers.items }
-    ensures { IfOk result (λ places. AreLastPlaces classes.now places.items) }
+    ensures { IfOk result (λ places. HaveLastPlaces classes.now places.items) }
 {
     let mut places = Vec::new(alloc);
     for (n, place) in classes.places.iter().enumerate() {
@@ -43,24 +44,18 @@ fn last_places(alloc: Global, classes: &AccessClasses) -> Result<Vec<Placed>, Al
 }
 
 /// Adds what the access of a number asks of each, by the numbers of both among all.
-fn push_row(
-    places: &[Placed],
-    starts: &[usize],
-    number: usize,
-    first: &Placed,
-    seconds: &[Placed],
-    pairs: &mut Vec<PlacePair>,
-)
-    requires few { length places.now ≤ 2 ^ 32 }
-    requires number { number < length places.now }
-    requires first { place_at places.now number ≡ first.now }
-    requires seconds { All (StandsAt starts.now places.now) seconds.now }
+fn push_row(classes: &AccessClasses, number: usize, seconds: &[Placed], pairs: &mut Vec<PlacePair>)
+    requires few { length classes.now.places.items ≤ 2 ^ 32 }
+    requires number { number < length classes.now.places.items }
+    requires seconds { All (StandsAt classes.now.starts.items classes.now.places.items)
+        seconds.now }
     requires room { vec_len pairs.old + length seconds.now ≤ vec_capacity pairs.old }
-    ensures { AddsRow places.now number seconds.now pairs.old.items pairs.new.items }
+    ensures { AddsRow classes.now.places.items number seconds.now pairs.old.items pairs.new.items }
 {
+    let first = &classes.places[number];
     for second in seconds {
         if asks(first, second) {
-            pairs.push_reserved(PlacePair::new(number, number_among(starts, second)));
+            pairs.push_reserved(PlacePair::new(number, number_of(classes, second)));
         }
     }
 }
@@ -88,14 +83,7 @@ pub fn class_pairs(
         let start = pairs.len();
         let seconds = changers.of_table(first.access.table);
         pairs.reserve(seconds.len())?;
-        push_row(
-            &classes.places,
-            &classes.starts,
-            n,
-            first,
-            seconds,
-            &mut pairs,
-        );
+        push_row(classes, n, seconds, &mut pairs);
         let end = pairs.len();
         rows[class as usize] = Row { start, end };
     }

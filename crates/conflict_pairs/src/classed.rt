@@ -1,12 +1,14 @@
 //! What is told of all questions of a list of paths, class by class.
-ghost use Rattle.std.specs.Prelude.{◌≡◌, ◌↔◌, ◌<◌, [], length, All, IfOk, Err, IsTrue, Some, slice_get};
+ghost use Rattle.std.specs.Prelude.{◌≡◌, ◌↔◌, ◌<◌, [], length, All, IfOk, Err, IsTrue};
+ghost use Rattle.std.specs.Prelude.{Some, slice_get};
 ghost use Rattle.prog_paths.specs.Places.{IsAt};
 ghost use Rattle.prog_paths.specs.Questions.{ChangesSingleCells, asked_among, questions_of};
 ghost use Rattle.prog_paths.specs.Limits.{most_questions};
 ghost use Rattle.conflict_pairs.specs.Classed.{AnswersAll, AreClassesJudged, ClassAnswer};
+ghost use Rattle.conflict_pairs.specs.Classed.{IsListedOf, table_of};
 ghost use Rattle.conflict_pairs.specs.Classes.{AreClassesOf};
 ghost use Rattle.conflict_pairs.specs.ClassPairs.{AreClassPairs};
-ghost use Rattle.conflict_pairs.specs.Listed.{AreChangersOf, AreJudged, IsListedIn, entries_in};
+ghost use Rattle.conflict_pairs.specs.Listed.{AreChangersOf, AreJudged, entries_in};
 ghost use Rattle.conflict_pairs.specs.Table.{IsOnQuestion, StandsFor};
 ghost use Rattle.conflict_pairs.specs.declared.fault.PairFault as PairFault;
 
@@ -79,7 +81,8 @@ pub fn class_table(alloc: Global, paths: &[Path]) -> Result<ClassTable<'_>, Pair
     })
 }
 
-/// The same by several threads, where there is much to judge.
+/// What is told of all questions of some paths, as `class_table` tells it, by several threads where
+/// there is much to judge.
 pub fn class_table_par<'a>(
     rt: &(impl Threads + Sync),
     alloc: Global,
@@ -151,7 +154,7 @@ impl<'a> ClassTable<'a> {
         (first.access.kind, second.access.kind)
     }
 
-    /// The nodes that have an access of its first class.
+    /// The nodes that have an access of the first class of the pair of a number.
     pub fn first_nodes(&self, n: usize) -> &[usize]
         requires { n < length self.now.answers }
         ensures { (e : ClassAnswer) → slice_get self.now.answers n ≡ Some e
@@ -160,7 +163,7 @@ impl<'a> ClassTable<'a> {
         nodes_like(&self.classes, self.asked.pairs[n].first)
     }
 
-    /// The nodes that have an access of its second class.
+    /// The nodes that have an access of the second class of the pair of a number.
     pub fn second_nodes(&self, n: usize) -> &[usize]
         requires { n < length self.now.answers }
         ensures { (e : ClassAnswer) → slice_get self.now.answers n ≡ Some e
@@ -169,7 +172,8 @@ impl<'a> ClassTable<'a> {
         nodes_like(&self.classes, self.asked.pairs[n].second)
     }
 
-    /// The verdict on each access of its first class against each of its second.
+    /// The verdict on each access of the first class of the pair of a number against each of the
+    /// second.
     pub fn verdict(&self, n: usize) -> &Verdict
         requires { n < length self.now.answers }
         ensures { (e : ClassAnswer) → slice_get self.now.answers n ≡ Some e
@@ -178,7 +182,8 @@ impl<'a> ClassTable<'a> {
         &self.judged.values[self.judged.numbers[n] as usize]
     }
 
-    /// The accesses that change a table, for all lists that are made of some accesses.
+    /// The accesses that change a table, by table: `listed_of` takes them, so that they are sorted
+    /// once for all parts.
     pub fn changers(&self, alloc: Global) -> Result<Changers, AllocError>
         ensures { IfOk result (AreChangersOf self.now.places) }
     {
@@ -194,8 +199,7 @@ impl<'a> ClassTable<'a> {
     ) -> Result<Listed, AllocError>
         requires changers { AreChangersOf self.now.places changers.now }
         requires firsts { All (λ p. IsAt self.now.paths p) firsts.now }
-        ensures listed { IfOk result (λ listed.
-            IsListedIn self.now.places self.now.verdicts listed) }
+        ensures listed { IfOk result (IsListedOf self.now) }
         ensures judged { IfOk result (λ listed. AreJudged self.now.paths
             (entries_in self.now.places self.now.verdicts listed)
             (asked_among firsts.now self.now.places)) }
@@ -206,13 +210,10 @@ impl<'a> ClassTable<'a> {
 
     /// The part of the table of all questions that has what is listed.
     pub fn part<'t>(&'t self, listed: &'t Listed) -> TablePart<'t>
-        requires { IsListedIn self.now.places self.now.verdicts listed.now }
-        ensures paths { result.paths ≡ self.now.paths }
-        ensures verdicts { result.verdicts ≡ self.now.verdicts }
-        ensures entries { result.entries
-            ≡ entries_in self.now.places self.now.verdicts listed.now }
+        requires { IsListedOf self.now listed.now }
+        ensures { result ≡ table_of self.now listed.now }
     {
-        TablePart::of(self.paths, self.places(), self.verdicts(), listed)
+        TablePart::of(self, listed)
     }
 
     /// All questions of the paths in order, with their verdicts.

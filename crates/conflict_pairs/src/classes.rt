@@ -1,10 +1,11 @@
 //! Classes of accesses: what is said of one is said of each other of its class.
-ghost use Rattle.std.specs.Prelude.{◌≡◌, ◌⊎◌, ◌↔◌, ◌<◌, ◌≤◌, ◌^◌, ℕ, [], length, All, IfOk, OnOk, Contains};
-ghost use Rattle.std.specs.Prelude.{set, slice_index_or};
+ghost use Rattle.std.specs.Prelude.{◌≡◌, ◌⊎◌, ◌↔◌, ◌<◌, ◌≤◌, ◌^◌, ℕ, [], length, All, IfOk, OnOk};
+ghost use Rattle.std.specs.Prelude.{Contains, set, slice_index_or};
 ghost use Rattle.prog_paths.specs.Places.{all_from};
 ghost use Rattle.conflict_pairs.specs.Classes.{HasCoverClass, AreOneClass, AreNumbered};
 ghost use Rattle.conflict_pairs.specs.Classes.{AreFirsts, AreLasts, AreNodes, AreClassesOf};
 ghost use Rattle.conflict_pairs.specs.Classes.{class_at, starts_from, nodes_at};
+ghost use Rattle.conflict_pairs.specs.Pairing.{StandsAt, place_at};
 
 use crate::alike::{are_alike, cover_classes_of};
 use crate::hashes::{access_hash, mix};
@@ -169,6 +170,16 @@ fn nodes_of(
         push_node(&mut nodes[numbers[n] as usize], places[n].node)?;
     }
     Ok(nodes)
+}
+
+/// The number among all of an access that has its number there.
+pub fn number_of(classes: &AccessClasses, place: &Placed) -> usize
+    requires few { length classes.now.places.items ≤ 2 ^ 32 }
+    requires stands { StandsAt classes.now.starts.items classes.now.places.items place.now }
+    ensures within { result < length classes.now.places.items }
+    ensures is { place_at classes.now.places.items result ≡ place.now }
+{
+    classes.starts[place.node] + place.number
 }
 
 /// The nodes that have an access of the class of this one, whose number among all is given.

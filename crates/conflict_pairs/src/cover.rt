@@ -4,7 +4,6 @@ ghost use Rattle.std.specs.Prelude.{IfSome, IfNone, IsTrue, Some, slice_get};
 ghost use Rattle.order_facts.specs.Chain.{Entails, IsConsistent, IsStep};
 ghost use Rattle.prog_check.specs.declared.path.Access.{Access};
 ghost use Rattle.prog_check.specs.declared.path.Term.{Term};
-ghost use Rattle.prog_paths.specs.Kinds.{option_items};
 ghost use Rattle.prog_paths.specs.Facts.{mine_node, their_node};
 ghost use Rattle.prog_paths.specs.Shown.{Runs, ShowEqual, second_terms, key_pairs, AllEqual};
 ghost use Rattle.prog_paths.specs.Shown.{CoversBy};

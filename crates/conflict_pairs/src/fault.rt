@@ -1,5 +1,4 @@
 //! Why there is no table.
-ghost use Rattle.conflict_pairs.specs.declared.fault.PairFault.TheVariants.{Memory};
 
 use std::alloc::AllocError;
 use std::error::Error;

@@ -242,8 +242,7 @@ fn number_of_pair(
         return Ok(known);
     }
     slots.set(hash, place_number(before.len()));
-    let number = push_numbered(values, found)?;
-    Ok(number)
+    push_numbered(values, found)
 }
 
 /// The verdicts on the questions of some pairs of accesses, and for each pair the number of its

@@ -9,15 +9,15 @@ ghost use Rattle.conflict_pairs.specs.Classed.{AreClassesJudged};
 ghost use Rattle.conflict_pairs.specs.ClassPairs.{IsInRow};
 ghost use Rattle.conflict_pairs.specs.Listed.{AddsQuestions, AreChangersOf, AreQuestionsListed};
 ghost use Rattle.conflict_pairs.specs.Listed.{HasClass, IsEntered, SpreadsRow};
-ghost use Rattle.conflict_pairs.specs.Pairing.{StandsAt, place_at};
+ghost use Rattle.conflict_pairs.specs.Pairing.{StandsAt};
 ghost use Rattle.conflict_pairs.specs.Table.{StandsFor};
 
 use crate::class_pairs::{ClassPairs, Row};
 use crate::classed::class_table;
-use crate::classes::AccessClasses;
+use crate::classes::{AccessClasses, number_of};
 use crate::fault::PairFault;
 use crate::interning::{Interned, number_at};
-use crate::pairing::{PlacePair, number_among};
+use crate::pairing::PlacePair;
 use crate::table::PairTable;
 use crate::verdicts::Verdict;
 use prog_check::Path;
@@ -41,7 +41,8 @@ fn spread(
 )
     requires pairs { row.end ≤ length pairs.now }
     requires one_each { length of_pairs.now ≡ length pairs.now }
-    requires classes { (j : ℕ) → IsInRow row j → HasClass classes.now pairs.now answers.old.items j }
+    requires classes { (j : ℕ) → IsInRow row j
+        → HasClass classes.now pairs.now answers.old.items j }
     ensures spread { SpreadsRow classes.now pairs.now of_pairs.now row answers.new.items }
     ensures size { length answers.new.items ≡ length answers.old.items }
 {
@@ -62,7 +63,8 @@ fn push_questions(
 )
     requires few { length classes.now.places.items ≤ 2 ^ 32 }
     requires number { number < length classes.now.places.items }
-    requires seconds { All (StandsAt classes.now.starts.items classes.now.places.items) seconds.now }
+    requires seconds { All (StandsAt classes.now.starts.items classes.now.places.items)
+        seconds.now }
     requires classes { (n : ℕ) → n < length classes.now.places.items
         → IsEntered classes.now answers.now n }
     requires room_of_pairs { vec_len listed.old.pairs + length seconds.now
@@ -74,22 +76,12 @@ fn push_questions(
     let first = &classes.places[number];
     for second in seconds {
         if asks(first, second) {
-            let other = number_among(&classes.starts, second);
+            let other = number_of(classes, second);
             let class = classes.numbers[other];
             listed.pairs.push_reserved(PlacePair::new(number, other));
             listed.numbers.push_reserved(number_at(answers, class));
         }
     }
-}
-
-/// The number among all of an access that has its number there.
-fn number_of(classes: &AccessClasses, place: &Placed) -> usize
-    requires few { length classes.now.places.items ≤ 2 ^ 32 }
-    requires stands { StandsAt classes.now.starts.items classes.now.places.items place.now }
-    ensures within { result < length classes.now.places.items }
-    ensures is { place_at classes.now.places.items result ≡ place.now }
-{
-    number_among(&classes.starts, place)
 }
 
 /// What some of the accesses ask of all, with the numbers of the verdicts, by those of the pairs of

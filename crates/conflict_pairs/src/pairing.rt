@@ -1,5 +1,5 @@
 //! Questions by the numbers of their two accesses among all: a table has many questions.
-ghost use Rattle.std.specs.Prelude.{◌≡◌, ◌<◌, ◌+◌, ◌^◌, length, slice_index_or};
+ghost use Rattle.std.specs.Prelude.{◌≡◌, ◌<◌, ◌^◌};
 ghost use Rattle.conflict_pairs.specs.Pairing.{HasPlaces, question_at};
 
 use prog_paths::{Placed, Question, question_between};
@@ -23,15 +23,6 @@ impl PlacePair {
             second: second as u32,
         }
     }
-}
-
-/// The number among all of an access, by where the accesses of its node begin.
-pub fn number_among(starts: &[usize], place: &Placed) -> usize
-    requires node { place.now.node < length starts.now }
-    requires fits { slice_index_or starts.now place.now.node 0 + place.now.number < 2 ^ 64 }
-    ensures { result ≡ slice_index_or starts.now place.now.node 0 + place.now.number }
-{
-    starts[place.node] + place.number
 }
 
 /// The question between the accesses of a pair.

@@ -1,60 +1,41 @@
 //! The table of all questions with their verdicts, and parts of it.
 ghost use Rattle.std.specs.Prelude.{◌≡◌, ◌<◌, ◌↔◌, [], IsTrue, Some, length, slice_get};
-ghost use Rattle.conflict_pairs.specs.Listed.{IsListedIn, entries_in};
+ghost use Rattle.conflict_pairs.specs.Classed.{IsListedOf, table_of};
 ghost use Rattle.conflict_pairs.specs.Table.{Judged};
 
 use crate::classed::ClassTable;
 use crate::listing::Listed;
 use crate::pairing::question_of;
 use crate::verdicts::Verdict;
-use prog_check::Path;
-use prog_paths::{Placed, Question};
+use prog_paths::Question;
 use std::marker::Model;
 
 /// Some of the questions of a list of paths in order, with their verdicts: a part of the table of
 /// all.
 #[derive(Drop)]
 pub struct TablePart<'t> {
-    paths: &'t [Path],
-    places: &'t [Placed],
-    verdicts: &'t [Verdict],
+    classes: &'t ClassTable<'t>,
     listed: &'t Listed,
 }
 
 impl<'t> Model for TablePart<'t> {
-    ghost use Rattle.conflict_pairs.specs.Listed.{IsListedIn, entries_in};
+    ghost use Rattle.conflict_pairs.specs.Classed.{IsListedOf, table_of};
     ghost use Rattle.conflict_pairs.specs.Table.{Table};
 
     ghost Value = { Table };
 
-    ghost view = { λ t. record {
-      paths = t.paths.now;
-      verdicts = t.verdicts.now;
-      entries = entries_in t.places.now t.verdicts.now t.listed.now;
-    } };
+    ghost view = { λ t. table_of t.classes.now t.listed.now };
 
-    ghost invariant = { λ t. IsListedIn t.places.now t.verdicts.now t.listed.now };
+    ghost invariant = { λ t. IsListedOf t.classes.now t.listed.now };
 }
 
 impl<'t> TablePart<'t> {
     /// The part of what is listed.
-    pub(crate) fn of(
-        paths: &'t [Path],
-        places: &'t [Placed],
-        verdicts: &'t [Verdict],
-        listed: &'t Listed,
-    ) -> Self
-        requires { IsListedIn places.now verdicts.now listed.now }
-        ensures paths { result.paths ≡ paths.now }
-        ensures verdicts { result.verdicts ≡ verdicts.now }
-        ensures entries { result.entries ≡ entries_in places.now verdicts.now listed.now }
+    pub(crate) fn of(classes: &'t ClassTable<'t>, listed: &'t Listed) -> Self
+        requires { IsListedOf classes.now listed.now }
+        ensures { result ≡ table_of classes.now listed.now }
     {
-        TablePart {
-            paths,
-            places,
-            verdicts,
-            listed,
-        }
+        TablePart { classes, listed }
     }
 
     /// How many questions there are.
@@ -76,7 +57,7 @@ impl<'t> TablePart<'t> {
         requires { n < length self.now.entries }
         ensures { (e : Judged) → slice_get self.now.entries n ≡ Some e → result ≡ e.question }
     {
-        question_of(self.places, self.listed.pairs[n])
+        question_of(self.classes.places(), self.listed.pairs[n])
     }
 
     /// Which of the verdicts the question of a number has.
@@ -96,7 +77,7 @@ impl<'t> TablePart<'t> {
         requires { n < length self.now.entries }
         ensures { (e : Judged) → slice_get self.now.entries n ≡ Some e → result.now ≡ e.verdict }
     {
-        let verdicts = self.verdicts;
+        let verdicts = self.classes.verdicts();
         &verdicts[self.verdict_number(n)]
     }
 }
@@ -110,28 +91,21 @@ pub struct PairTable<'a> {
 }
 
 impl<'a> Model for PairTable<'a> {
-    ghost use Rattle.conflict_pairs.specs.Listed.{IsListedIn, entries_in};
+    ghost use Rattle.conflict_pairs.specs.Classed.{IsListedOf, table_of};
     ghost use Rattle.conflict_pairs.specs.Table.{Table};
 
     ghost Value = { Table };
 
-    ghost view = { λ t. record {
-      paths = t.classes.paths;
-      verdicts = t.classes.verdicts;
-      entries = entries_in t.classes.places t.classes.verdicts t.listed;
-    } };
+    ghost view = { λ t. table_of t.classes t.listed };
 
-    ghost invariant = { λ t. IsListedIn t.classes.places t.classes.verdicts t.listed };
+    ghost invariant = { λ t. IsListedOf t.classes t.listed };
 }
 
 impl<'a> PairTable<'a> {
     /// The table of the questions that are listed, with the verdicts of the class table.
     pub(crate) fn of(classes: ClassTable<'a>, listed: Listed) -> Self
-        requires { IsListedIn classes.places classes.verdicts listed }
-        ensures paths { result.paths ≡ classes.entry.paths }
-        ensures verdicts { result.verdicts ≡ classes.entry.verdicts }
-        ensures entries { result.entries ≡ entries_in classes.entry.places
-            classes.entry.verdicts listed }
+        requires { IsListedOf classes listed }
+        ensures { result ≡ table_of classes.entry listed }
     {
         PairTable { classes, listed }
     }
@@ -185,7 +159,7 @@ impl<'a> PairTable<'a> {
         self.classes.verdicts()
     }
 
-    /// Which of these the question of a number has.
+    /// Which of the verdicts the question of a number has.
     pub fn verdict_number(&self, n: usize) -> usize
         requires { n < length self.now.entries }
         ensures within { result < length self.now.verdicts }

@@ -24,9 +24,8 @@ loop-n-preserved-then-number_at-n c =
 pub push_row-requires-clause-seconds : goal.push_row-requires-clause-seconds
 push_row-requires-clause-seconds c =
     let k = c.args.classes.now in
-    rw (c.deref-in-loop-n-3.ensures.value, c.deref-in-loop-n-2.ensures.value)
-    (changers-all (StandsAt k.starts.items k.places.items) c.in_ok-lasts.lasts.items c.in_ok-changers.changers c.of_table-seconds.result.now _ c.of_table-seconds.ensures
-    (λ t. c.in_ok-changers.ensures t ∙ ap (changers_of t) c.deref.ensures.value) (lasts-at c.args.paths.now k c.requires c.in_ok-lasts.lasts.items c.in_ok-lasts.ensures))
+    changers-all (StandsAt k.starts.items k.places.items) c.in_ok-lasts.lasts.items c.in_ok-changers.changers c.of_table-seconds.result.now _ c.of_table-seconds.ensures
+    (λ t. c.in_ok-changers.ensures t ∙ ap (changers_of t) c.deref.ensures.value) (lasts-at c.args.paths.now k c.requires c.in_ok-lasts.lasts.items c.in_ok-lasts.ensures)
 
 pub loop-n-preserved : goal.loop-n-preserved
 loop-n-preserved c =
@@ -44,7 +43,7 @@ loop-n-preserved c =
     let numbered : n < length k.numbers.items = omega (arith, inside, one_each paths k c.requires) in
     let read = get_or_read k.numbers.items n c.index-class.result.now numbered c.index-class.ensures 0 in
     let first_is : c.number_at.result ≡ get_or k.firsts.items (class_at k n) 0 = c.number_at.ensures ∙ (λ i. get_or (c.deref-in-loop-n.ensures.value i) (read i) 0) in
-    let adds = rw (c.deref-in-loop-n-2.ensures.value, c.in_ok-reserve.ensures.items) at c.push_row.ensures in
+    let adds = rw c.in_ok-reserve.ensures.items at c.push_row.ensures in
     let of_first = rw c.deref-first-items.ensures.value at c.of_table-seconds.ensures in
     let of_it : seconds ≡ of_table (place_at L n).access.table changers = of_first ∙ ap (λ (p : Placed). of_table p.access.table changers) (place-any L n _ inside) in
     let start : c.len-start.result ≡ length old = omega (arith, c.len-start.ensures) in

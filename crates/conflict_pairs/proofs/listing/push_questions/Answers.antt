@@ -3,41 +3,28 @@ use Rattle.std.proofs.lemmas.List.{get_or_read}
 use Rattle.conflict_pairs.specs.declared.listing.Listed.{Listed}
 use Rattle.conflict_pairs.specs.Pairing.{no_place}
 use Rattle.conflict_pairs.proofs.Entered.{adds-no, adds-yes}
-use Rattle.conflict_pairs.proofs.Paired.{number-is, number-small, number-there}
 use Rattle.conflict_pairs.proofs.listing.push_questions.Goals as goal
 use Rattle.conflict_pairs.proofs.listing.push_questions.Goals.{then-asks, else-asks}
 
 pub index-class-requires : goal.index-class-requires
 index-class-requires c =
-    let classes = c.args.classes.now in
-    let n = c.number_among-other.result in
-    let stands = c.requires.seconds c.loop-second.second-index _ c.loop-second-test.true in
-    let n_is = rw c.deref.ensures.value at c.number_among-other.ensures in
-    let its = c.requires.classes n (number-there classes.starts.items classes.places.items c.requires.few _ stands n n_is) in
-    omega (arith, its.number_within, classes.numbers.ok.0)
+    let its = c.requires.classes c.number_of-other.result c.number_of-other.ensures.within in
+    omega (arith, its.number_within, c.args.classes.now.numbers.ok.0)
 
 pub new-requires-clause-second_fits : goal.new-requires-clause-second_fits
-new-requires-clause-second_fits c =
-    let classes = c.args.classes.now in
-    let n = c.number_among-other.result in
-    let stands = c.requires.seconds c.loop-second.second-index _ c.loop-second-test.true in
-    let n_is = rw c.deref.ensures.value at c.number_among-other.ensures in
-    number-small classes.starts.items classes.places.items c.requires.few _ stands n n_is
+new-requires-clause-second_fits c = omega (arith, c.number_of-other.ensures.within, c.requires.few)
 
 pub number_at-requires : goal.number_at-requires
 number_at-requires c =
     let classes = c.args.classes.now in
-    let n = c.number_among-other.result in
-    let stands = c.requires.seconds c.loop-second.second-index _ c.loop-second-test.true in
-    let n_is = rw c.deref.ensures.value at c.number_among-other.ensures in
-    let its = c.requires.classes n (number-there classes.starts.items classes.places.items c.requires.few _ stands n n_is) in
+    let n = c.number_of-other.result in
+    let its = c.requires.classes n c.number_of-other.ensures.within in
     let class_is = get_or_read classes.numbers.items n c.index-class.result.now its.number_within c.index-class.ensures 0 in
     subst (λ (z : ℕ). z < length c.args.answers.now) (sym class_is) its.class_within
 
 pub loop-second-preserved : goal.loop-second-preserved
 loop-second-preserved c =
     let classes = c.args.classes.now in
-    let starts = classes.starts.items in
     let places = classes.places.items in
     let answers = c.args.answers.now in
     let m = c.args.number in
@@ -47,10 +34,8 @@ loop-second-preserved c =
     let from = get_or_read places m c.index-first.result.now c.requires.number c.index-first.ensures no_place in
     elim c.if-asks.branch [
       | then-asks w ↦
-          let n = w.number_among-other.result in
-          let stands = c.requires.seconds i _ c.loop-second-test.true in
-          let n_is = rw w.deref.ensures.value at w.number_among-other.ensures in
-          let there = number-there starts places c.requires.few _ stands n n_is in
+          let n = w.number_of-other.result in
+          let there = w.number_of-other.ensures.within in
           let class_is = get_or_read classes.numbers.items n w.index-class.result.now (c.requires.classes n there).number_within w.index-class.ensures 0 in
           let pairs_longer = ap (λ (l : Listed). vec_len l.pairs) w.listed-is ∙ w.push_reserved.ensures.len in
           let pairs_as_wide = ap (λ (l : Listed). vec_capacity l.pairs) w.listed-is ∙ w.push_reserved.ensures.capacity in
@@ -62,7 +47,7 @@ loop-second-preserved c =
                 (ap (λ (l : Listed). l.pairs.items) w.listed-is ∙ w.push_reserved.ensures.items)
                 (ap (λ (l : Listed). l.numbers.items) w.listed-is ∙ w.push_reserved-then-asks.ensures.items)
                 w.new.ensures.first w.new.ensures.second c.requires.number there
-                (number-is starts places c.requires.few _ stands n n_is)
+                w.number_of-other.ensures.is
                 (w.number_at.ensures ∙ ap (λ (z : ℕ). get_or answers z 0) class_is);
             room_of_pairs = omega (arith, c.loop-second.invariant.room_of_pairs, pairs_longer, pairs_as_wide);
             room_of_numbers = omega (arith, c.loop-second.invariant.room_of_numbers, numbers_longer, numbers_as_wide);

@@ -7,5 +7,5 @@ pub returns : goal.returns
 returns c =
     let inside = c.self.inside in
     c.len.ensures ∙ inside.listed.now.pairs.ok.0
-    ∙ sym (pairs-length inside.verdicts.now inside.places.now inside.listed.now.pairs.items inside.listed.now.numbers.items c.self.invariant.one_each)
+    ∙ sym (pairs-length inside.classes.now.verdicts inside.classes.now.places inside.listed.now.pairs.items inside.listed.now.numbers.items c.self.invariant.one_each)
     ∙ ap (λ (t : Table). length t.entries) c.self.view_is
