@@ -1,5 +1,5 @@
 -- Counts of covers: what changes where one of them grows, and which of them is the greatest.
-use Rattle.std.proofs.Common.{◌≡◌, ◌≢◌, ◌∙◌, ◌+◌, ◌<◌, ◌≤◌, ◌==◌, ◌&&◌, ◌||◌, ◌∷◌, [], ◌++◌, ℕ, zero, suc, Bool, true, false, cond, List, Vec, Option, None, Some, length, get_or, take, set, inl, inr, ◌⊎◌, refl, sym, ap, subst, arith, option_map, option_and_then, slice_get}
+use Rattle.std.proofs.Common.{◌≡◌, ◌≢◌, ◌∙◌, ◌+◌, ◌<◌, ◌≤◌, ◌==◌, ◌&&◌, ◌∷◌, [], ◌++◌, ℕ, zero, suc, Bool, true, false, cond, List, Vec, Option, None, Some, length, get_or, take, set, inl, inr, ◌⊎◌, refl, sym, ap, subst, arith, option_map, option_and_then, slice_get}
 use Rattle.std.proofs.lemmas.Bool.Decides.{eqb_tells}
 use Rattle.std.proofs.lemmas.List.{get_or-map, length-map, take_more}
 use Rattle.std.proofs.lemmas.Option.{option_and_then_some, same_Some, slice_get_read, slice_get_within}
@@ -12,7 +12,8 @@ use Rattle.robust_cert.specs.Sharing.{Entry, entries_told, entry_told, entry_wit
 use Rattle.std.proofs.lemmas.List.Sums.{sum_by_push}
 use Rattle.analysis_words.specs.declared.entry_counts.Covering.{Covering}
 use Rattle.analysis_words.specs.Nodes.{access_at}
-use Rattle.analysis_words.specs.Counts.{AddsCounts, CountsCovers, IsBefore, IsMost, IsMostAmong, apart_count, count_at, cover_count, is_apart, is_in_cover, most_count, one_if}
+use Rattle.prog_paths.specs.StaticGraph.{Precedes}
+use Rattle.analysis_words.specs.Counts.{AddsCounts, CountsCovers, IsMost, IsMostAmong, apart_count, count_at, cover_count, is_apart, is_in_cover, most_count, one_if}
 
 -- ---- what stands at two numbers
 
@@ -60,17 +61,6 @@ none-more (Some n) = ap Some (omega arith)
 
 pub adds-same : (more others : ℕ → ℕ → ℕ) (old new : List (Vec ℕ Global)) → ((x a : ℕ) → more x a ≡ others x a) → AddsCounts more old new → AddsCounts others old new
 adds-same more others old new same adds x a = adds x a ∙ ap (λ (m : ℕ). option_map (λ (n : ℕ). n + m) (count_at old x a)) (same x a)
-
-twice-more : (o : Option ℕ) (p q : ℕ) → option_map (λ (n : ℕ). n + q) (option_map (λ (n : ℕ). n + p) o) ≡ option_map (λ (n : ℕ). n + (p + q)) o
-twice-more None p q = refl
-twice-more (Some n) p q = ap Some (omega arith)
-
-pub adds-twice : (more others : ℕ → ℕ → ℕ) (old mid new : List (Vec ℕ Global)) → AddsCounts more old mid → AddsCounts others mid new → AddsCounts (λ x a. more x a + others x a) old new
-adds-twice more others old mid new first second x a =
-    second x a ∙ ap (λ (o : Option ℕ). option_map (λ (n : ℕ). n + others x a) o) (first x a) ∙ twice-more (count_at old x a) (more x a) (others x a)
-
-pub adds-none : (counts : List (Vec ℕ Global)) → AddsCounts (λ x a. 0) counts counts
-adds-none counts x a = sym (none-more (count_at counts x a))
 
 -- the row of a node, where it is set
 module _ (old : List (Vec ℕ Global)) (node : ℕ) (v w : Vec ℕ Global) (there : slice_get old node ≡ Some v) where
@@ -120,13 +110,6 @@ module _ (old : List (Vec ℕ Global)) (node : ℕ) (v w : Vec ℕ Global) (ther
           ∙ sym (ap (λ (b : Bool). option_map (λ (m : ℕ). m + cond b (more a) 0) (count_at old x a)) e.0
           ∙ ap (λ (o : Option ℕ). option_map (λ (m : ℕ). m + more a) o) (at-row x a (sym e.1)))
 
--- ---- both accesses of a cover
-
-pub one-or-other : (p q : Bool) → (p ≡ true → q ≡ true → ⊥) → one_if p + one_if q ≡ one_if (p || q)
-one-or-other true true apart = absurd (apart refl refl)
-one-or-other true false apart = refl
-one-or-other false q apart = omega arith
-
 -- ---- one entry more
 
 pub counted-more : (paths : List Path) (es : List Entry) (e : Entry) (old new : List (Vec ℕ Global)) → CountsCovers paths es old
@@ -166,13 +149,13 @@ below zero (suc m) lt other = absurd (omega (arith, lt))
 below (suc n) zero lt other = omega arith
 below (suc n) (suc m) lt other = let less = below n m (omega (arith, lt)) (λ e. other (ap suc e)) in omega (arith, less)
 
-module _ (count : (x a : ℕ) → Option ℕ) (node access : ℕ) (most : Option Covering) (so_far : IsMostAmong count (λ x a. IsBefore x a node access) most) where
+module _ (count : (x a : ℕ) → Option ℕ) (node access : ℕ) (most : Option Covering) (so_far : IsMostAmong count (λ x a. Precedes x a node access) most) where
   -- one that stands before the next place stands before this one or here
-  before-or-here : (x a : ℕ) → IsBefore x a node (access + 1) → IsBefore x a node access ⊎ (x ≡ node) × (a ≡ access)
+  before-or-here : (x a : ℕ) → Precedes x a node (access + 1) → Precedes x a node access ⊎ (x ≡ node) × (a ≡ access)
   before-or-here x a (inl lt) = inl (inl lt)
   before-or-here x a (inr here) = near (eqb_tells a access)
     where
-      near : ((a == access) ≡ true) × (a ≡ access) ⊎ ((a == access) ≡ false) × (a ≢ access) → IsBefore x a node access ⊎ (x ≡ node) × (a ≡ access)
+      near : ((a == access) ≡ true) × (a ≡ access) ⊎ ((a == access) ≡ false) × (a ≢ access) → Precedes x a node access ⊎ (x ≡ node) × (a ≡ access)
       near (inl e) = inr (here.0, e.1)
       near (inr e) = inl (inr (here.0, below access a here.1 e.1))
 
@@ -180,20 +163,20 @@ module _ (count : (x a : ℕ) → Option ℕ) (node access : ℕ) (most : Option
   here-is n is x a m at e f = same_Some m n (sym at ∙ ap (λ y. count y a) e ∙ ap (count node) f ∙ is)
 
   -- it stays, where the next one is not greater
-  pub most-stays : (n : ℕ) → count node access ≡ Some n → n ≤ most_count most → IsMostAmong count (λ x a. IsBefore x a node (access + 1)) most
+  pub most-stays : (n : ℕ) → count node access ≡ Some n → n ≤ most_count most → IsMostAmong count (λ x a. Precedes x a node (access + 1)) most
   most-stays n is le = record {
     none_above = λ x a m before at. by x a m at (before-or-here x a before);
     found = so_far.found;
     first = so_far.first;
   }
     where
-      by : (x a m : ℕ) → count x a ≡ Some m → IsBefore x a node access ⊎ (x ≡ node) × (a ≡ access) → m ≤ most_count most
+      by : (x a m : ℕ) → count x a ≡ Some m → Precedes x a node access ⊎ (x ≡ node) × (a ≡ access) → m ≤ most_count most
       by x a m at (inl before) = so_far.none_above x a m before at
       by x a m at (inr here) = let e = here-is n is x a m at here.0 here.1 in omega (arith, e, le)
 
   -- the next one takes its place, where it is greater
   pub most-grows : (n : ℕ) → count node access ≡ Some n → most_count most < n
-      → IsMostAmong count (λ x a. IsBefore x a node (access + 1)) (Some (record { node = node; access = access; count = n }))
+      → IsMostAmong count (λ x a. Precedes x a node (access + 1)) (Some (record { node = node; access = access; count = n }))
   most-grows n is lt = record {
     none_above = λ x a m before at. by x a m at (before-or-here x a before);
     found = (is, some most lt);
@@ -204,29 +187,29 @@ module _ (count : (x a : ℕ) → Option ℕ) (node access : ℕ) (most : Option
       some None h = h
       some (Some c) h = omega (arith, h)
 
-      by : (x a m : ℕ) → count x a ≡ Some m → IsBefore x a node access ⊎ (x ≡ node) × (a ≡ access) → m ≤ n
+      by : (x a m : ℕ) → count x a ≡ Some m → Precedes x a node access ⊎ (x ≡ node) × (a ≡ access) → m ≤ n
       by x a m at (inl before) = let le = so_far.none_above x a m before at in omega (arith, le, lt)
       by x a m at (inr here) = let e = here-is n is x a m at here.0 here.1 in omega (arith, e)
 
 -- behind the last access of a node comes the next node
 pub next-node : (count : (x a : ℕ) → Option ℕ) (node accesses : ℕ) (most : Option Covering) → ((x a n : ℕ) → count x a ≡ Some n → x ≡ node → a < accesses)
-    → IsMostAmong count (λ x a. IsBefore x a node accesses) most → IsMostAmong count (λ x a. IsBefore x a (node + 1) 0) most
+    → IsMostAmong count (λ x a. Precedes x a node accesses) most → IsMostAmong count (λ x a. Precedes x a (node + 1) 0) most
 next-node count node accesses most within so_far = record {
   none_above = λ x a n before at. so_far.none_above x a n (by x a n at (eqb_tells x node) before) at;
   found = so_far.found;
   first = so_far.first;
 }
   where
-    by : (x a n : ℕ) → count x a ≡ Some n → ((x == node) ≡ true) × (x ≡ node) ⊎ ((x == node) ≡ false) × (x ≢ node) → IsBefore x a (node + 1) 0 → IsBefore x a node accesses
+    by : (x a n : ℕ) → count x a ≡ Some n → ((x == node) ≡ true) × (x ≡ node) ⊎ ((x == node) ≡ false) × (x ≢ node) → Precedes x a (node + 1) 0 → Precedes x a node accesses
     by x a n at (inl e) before = inr (e.1, within x a n at e.1)
     by x a n at (inr e) (inl lt) = inl (below node x lt e.1)
     by x a n at (inr e) (inr here) = let none = here.1 in absurd (omega (arith, none))
 
 -- nothing stands before the first place
-pub none-yet : (count : (x a : ℕ) → Option ℕ) → IsMostAmong count (λ x a. IsBefore x a 0 0) None
+pub none-yet : (count : (x a : ℕ) → Option ℕ) → IsMostAmong count (λ x a. Precedes x a 0 0) None
 none-yet count = record { none_above = λ x a n before at. none x a n before; found = tt; first = tt }
   where
-    none : (x a n : ℕ) → IsBefore x a 0 0 → n ≤ 0
+    none : (x a n : ℕ) → Precedes x a 0 0 → n ≤ 0
     none x a n (inl lt) = absurd (omega (arith, lt))
     none x a n (inr here) = let lt = here.1 in absurd (omega (arith, lt))
 
@@ -235,7 +218,7 @@ pub row-read : (counts : List (Vec ℕ Global)) (node : ℕ) (v : Vec ℕ Global
 row-read counts node v lt is a = at-row counts node v v (slice_get_read counts (length counts) node v refl lt is) node a refl
 
 -- every count stands before the node behind the last
-pub all-counts : (counts : List (Vec ℕ Global)) (node : ℕ) (most : Option Covering) → length counts ≤ node → IsMostAmong (count_at counts) (λ x a. IsBefore x a node 0) most → IsMost (count_at counts) most
+pub all-counts : (counts : List (Vec ℕ Global)) (node : ℕ) (most : Option Covering) → length counts ≤ node → IsMostAmong (count_at counts) (λ x a. Precedes x a node 0) most → IsMost (count_at counts) most
 all-counts counts node most le so_far = record {
   none_above = λ x a n any at. so_far.none_above x a n (inl (inside x a n at)) at;
   found = so_far.found;

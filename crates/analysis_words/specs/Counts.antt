@@ -1,11 +1,12 @@
 -- What is counted of the entries of a certificate: how many of their questions never meet, and in how many covers each
 -- access is one of the two.
-use Rattle.std.specs.Prelude.{ℕ, ◌≡◌, ◌+◌, ◌<◌, ◌≤◌, ◌⊎◌, ◌==◌, ◌&&◌, ◌||◌, Bool, true, false, cond, List, Vec, Option, Some}
+use Rattle.std.specs.Prelude.{ℕ, ◌≡◌, ◌+◌, ◌<◌, ◌≤◌, ◌==◌, ◌&&◌, ◌||◌, Bool, true, false, cond, List, Vec, Option, Some}
 use Rattle.std.specs.Prelude.{count_by, sum_by, option_and_then, option_map, slice_get, is_some, unwrap_or, IfSome}
 use Rattle.std.specs.Option.{option_map_or}
 use Rattle.std.specs.declared.alloc.Global.{Global}
 use Rattle.prog_check.specs.declared.path.Access.{Access}
 use Rattle.prog_check.specs.declared.path.Path.{Path}
+use Rattle.prog_paths.specs.StaticGraph.{Precedes}
 use Rattle.robust_cert.specs.declared.certificate.EntryQuestion.{EntryQuestion}
 use Rattle.robust_cert.specs.declared.entries.Reason.{Reason}
 use Rattle.robust_cert.specs.declared.entries.Reason.TheVariants.{Apart, Cover}
@@ -45,9 +46,9 @@ count_at counts node access =
 abbrev pub one_if : Bool → ℕ
 one_if holds = cond holds 1 0
 
--- the count of a number, or 0
-abbrev pub number_at : List ℕ → (access : ℕ) → ℕ
-number_at counts access = unwrap_or (slice_get counts access) 0
+-- the count of an access, or 0
+abbrev pub count_or_zero : List ℕ → (access : ℕ) → ℕ
+count_or_zero counts access = unwrap_or (slice_get counts access) 0
 
 -- the count of an access of a node, or 0
 abbrev pub number_in : List (Vec ℕ Global) → (node access : ℕ) → ℕ
@@ -60,10 +61,6 @@ AddsCounts more old new = (node access : ℕ) →
 
 -- ---- the greatest count
 
--- the access `a` of a node `x` stands before the access `b` of a node `y`
-abbrev pub IsBefore : (x a y b : ℕ) → Type 0
-IsBefore x a y b = (x < y) ⊎ ((x ≡ y) × (a < b))
-
 abbrev pub most_count : Option Covering → ℕ
 most_count most = option_map_or (λ (c : Covering). c.count) most 0
 
@@ -72,7 +69,7 @@ pub record IsMostAmong
     (count : (node access : ℕ) → Option ℕ) (among : (node access : ℕ) → Type 0) (most : Option Covering) : Type 0 where
   pub none_above : (x a n : ℕ) → among x a → count x a ≡ Some n → n ≤ most_count most
   pub found : IfSome most (λ m. (count m.node m.access ≡ Some m.count) × (0 < m.count))
-  pub first : IfSome most (λ m. (x a n : ℕ) → count x a ≡ Some n → IsBefore x a m.node m.access → n < m.count)
+  pub first : IfSome most (λ m. (x a n : ℕ) → count x a ≡ Some n → Precedes x a m.node m.access → n < m.count)
 
 -- the same of all counts
 abbrev pub IsMost : (count : (node access : ℕ) → Option ℕ) → Option Covering → Type 0

@@ -2,11 +2,12 @@
 //! there are many.
 ghost use Rattle.std.specs.Prelude.{◌≡◌, ◌==◌, ◌&&◌, ◌+◌, ◌<◌, [], ℕ, Option, All, IfOk, OnOk};
 ghost use Rattle.std.specs.Prelude.{option_map, slice_get};
+ghost use Rattle.prog_paths.specs.StaticGraph.{Precedes};
 ghost use Rattle.robust_cert.specs.Sharing.{entries_told, reason_at, HasReason};
-ghost use Rattle.analysis_words.specs.Counts.{count_at, is_apart, is_in_cover, most_count};
-ghost use Rattle.analysis_words.specs.Counts.{number_at, number_in, one_if};
-ghost use Rattle.analysis_words.specs.Counts.{AddsCounts, AreCountsInParts, AreCountsOf};
-ghost use Rattle.analysis_words.specs.Counts.{CountsCovers, IsBefore, IsMost, IsMostAmong, IsSumOf};
+ghost use Rattle.analysis_words.specs.Counts.{count_at, count_or_zero, is_apart, is_in_cover};
+ghost use Rattle.analysis_words.specs.Counts.{most_count, number_in, one_if, AddsCounts};
+ghost use Rattle.analysis_words.specs.Counts.{AreCountsInParts, AreCountsOf};
+ghost use Rattle.analysis_words.specs.Counts.{CountsCovers, IsMost, IsMostAmong, IsSumOf};
 
 use conflict_pairs::EQUAL_PARTS;
 use prog_check::Path;
@@ -105,8 +106,8 @@ fn count_of(covering: Option<Covering>) -> u64
 // The first access of a node with the most covers, if it has more than the most before it.
 fn most_of_node(node: usize, covers: &[u64], before: Option<Covering>) -> Option<Covering>
     ensures { (count : (x a : ℕ) → Option ℕ) → ((a : ℕ) → count node a ≡ slice_get covers.now a)
-        → IsMostAmong count (λ x a. IsBefore x a node 0) before
-        → IsMostAmong count (λ x a. IsBefore x a (node + 1) 0) result }
+        → IsMostAmong count (λ x a. Precedes x a node 0) before
+        → IsMostAmong count (λ x a. Precedes x a (node + 1) 0) result }
 {
     let mut most = before;
     for (access, count) in covers.iter().enumerate() {
@@ -124,7 +125,7 @@ fn most_of_node(node: usize, covers: &[u64], before: Option<Covering>) -> Option
 // Adds counts to those of the same accesses. More than memory can hold are answered as want of it.
 fn add_counts(all: &mut Vec<u64>, more: &[u64]) -> Result<(), AllocError>
     ensures { OnOk result ((a : ℕ) → slice_get all.new.items a
-        ≡ option_map (λ n. n + number_at more.now a) (slice_get all.old.items a)) }
+        ≡ option_map (λ n. n + count_or_zero more.now a) (slice_get all.old.items a)) }
 {
     for (access, count) in more.iter().enumerate() {
         if access < all.len() {

@@ -1,6 +1,7 @@
 use Rattle.std.proofs.Common.{◌≡◌, ◌<◌, ◌≤◌, ◌∙◌, ◌+◌, Some, get_or, sym, subst, arith}
 use Rattle.std.proofs.lemmas.Option.{slice_get-get_or, slice_get_within}
-use Rattle.analysis_words.specs.Counts.{IsBefore, IsMostAmong, most_count}
+use Rattle.prog_paths.specs.StaticGraph.{Precedes}
+use Rattle.analysis_words.specs.Counts.{IsMostAmong, most_count}
 use Rattle.analysis_words.proofs.Counts.{most-stays, most-grows, next-node}
 use Rattle.analysis_words.proofs.entry_counts.most_of_node.Goals.{then-count-count_of, else-count-count_of}
 use Rattle.analysis_words.proofs.entry_counts.most_of_node.Goals as goal
@@ -20,10 +21,10 @@ loop-access-preserved c = λ count same before.
     elim c.if-count-count_of.branch [
       | then-count-count_of w ↦
           let more : most_count most < n = omega (arith, w.if-count-count_of.true, c.count_of.ensures) in
-          subst (λ m. IsMostAmong count (λ x a. IsBefore x a node (k + 1)) m) (sym w.most-is) (most-grows count node k most so_far n is more)
+          subst (λ m. IsMostAmong count (λ x a. Precedes x a node (k + 1)) m) (sym w.most-is) (most-grows count node k most so_far n is more)
       | else-count-count_of w ↦
           let less : n ≤ most_count most = omega (arith, w.if-count-count_of.false, c.count_of.ensures) in
-          subst (λ m. IsMostAmong count (λ x a. IsBefore x a node (k + 1)) m) (sym w.most-is) (most-stays count node k most so_far n is less)
+          subst (λ m. IsMostAmong count (λ x a. Precedes x a node (k + 1)) m) (sym w.most-is) (most-stays count node k most so_far n is less)
     ]
 
 pub returns : goal.returns
