@@ -1,8 +1,8 @@
 //! Places of a part of an input, with their lines in the part and in the whole input.
 ghost use Rattle.std.specs.Prelude.{◌≡◌, ◌≤◌, ◌+◌, ◌++◌, IfOk, length, map, string_bytes};
 ghost use Rattle.text_places.specs.Quotes.{pointed_out, visible};
-ghost use Rattle.run_words.specs.InInput.{input_line_text, whole_line, whole_line_text, numbered_text};
-ghost use Rattle.run_words.specs.InInput.{PointsInPart};
+ghost use Rattle.run_words.specs.InInput.{input_line_text, whole_line, whole_line_text};
+ghost use Rattle.run_words.specs.InInput.{numbered_text, PointsInPart};
 
 use std::alloc::{AllocError, Global};
 use text_places::{feeds, line_number, point_out, visible_text};

@@ -11,13 +11,14 @@ use history_book::{
     BeginFault, Book, CommitFault, EndFault, NoSuchTicket, Receipt, ScanFault, Ticket,
 };
 use prog_run::Run;
-use prog_tree::{Cell, Region, RowPieces, Sequence};
+use prog_tree::{Cell, Region, Sequence};
 use std::sync::{RwLock, Wait};
 
 /// A book under one lock, which reads share and each other call has alone. Whenever the lock is
 /// taken, its value is a book. Each call takes the lock, makes the call of `Book` that it names,
-/// and lets go. No clause can name a value under a lock, so what a call does to the book is said by
-/// the contract of `Book`, and here only what holds of its arguments and its result.
+/// and lets go; a commit makes ready for looks before, and `begin_after` may withdraw what it began.
+/// No clause can name a value under a lock, so what a call does to the book is said by the contract
+/// of `Book`, and here only what holds of its arguments and its result.
 #[derive(Drop)]
 pub struct SharedBook<'a> {
     lock: RwLock<Book<'a>>,

@@ -2,7 +2,8 @@
 ghost use Rattle.std.specs.Prelude.{◌≡◌, ◌↔◌, ℕ, None, IfSome, IsTrue, option_map};
 ghost use Rattle.prog_tree.specs.Table.{Cells};
 ghost use Rattle.version_store.specs.Blocks.{IsTrueBlock, IsTrueSlot, IsOfOlder, IsOfSlot};
-ghost use Rattle.version_store.specs.Blocks.{IsSilent, IsSilentSlot, SaysOf, ended, ended_slot, with_block};
+ghost use Rattle.version_store.specs.Blocks.{IsSilent, IsSilentSlot, SaysOf, ended, ended_slot};
+ghost use Rattle.version_store.specs.Blocks.{with_block};
 ghost use Rattle.version_store.specs.StandsFor.{VersionChain};
 
 use prog_tree::{Piece, Region};

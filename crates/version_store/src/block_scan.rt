@@ -1,11 +1,12 @@
 //! Scans that share the rows of blocks.
-ghost use Rattle.std.specs.Prelude.{◌≡◌, ◌↔◌, ◌⊎◌, ◌++◌, ◌≤◌, ◌<ℤ◌, ℕ, None, IfOk, IfSome, IsTrue, OnOk};
+ghost use Rattle.std.specs.Prelude.{◌≡◌, ◌↔◌, ◌⊎◌, ◌++◌, ◌≤◌, ◌<ℤ◌, ℕ, None, IfOk, IfSome, IsTrue};
+ghost use Rattle.std.specs.Prelude.{OnOk};
 ghost use Rattle.prog_tree.specs.Number.{least, greatest};
 ghost use Rattle.prog_tree.specs.Pieces.{rows_of};
 ghost use Rattle.prog_tree.specs.Table.{TableState, rows_in};
 ghost use Rattle.version_store.specs.Blocks.{AreEnds, AreInner, AreTrue, HaveNoneInCommon};
-ghost use Rattle.version_store.specs.Blocks.{IsBySlot, IsCommon, IsOfSlot, IsPart, IsSilentSlot, LieIn};
-ghost use Rattle.version_store.specs.Blocks.{in_common, part_before, part_behind, part_between};
+ghost use Rattle.version_store.specs.Blocks.{IsBySlot, IsCommon, IsOfSlot, IsPart, IsSilentSlot};
+ghost use Rattle.version_store.specs.Blocks.{LieIn, in_common, part_before, part_behind, part_between};
 ghost use Rattle.version_store.specs.Reading.{AllRise};
 ghost use Rattle.version_store.specs.Regions.{seen_in, IsSeen};
 

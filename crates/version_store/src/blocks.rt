@@ -1,12 +1,12 @@
 //! The blocks of all cells.
-ghost use Rattle.std.specs.Prelude.{◌≡◌, ◌↔◌, ◌≤◌, ◌<◌, ◌/◌, [], length, true, is_some, IfSome, IsTrue};
-ghost use Rattle.std.specs.Prelude.{OnOk, Some};
+ghost use Rattle.std.specs.Prelude.{◌≡◌, ◌↔◌, ◌≤◌, ◌<◌, ◌/◌, [], length, true, is_some, IfSome};
+ghost use Rattle.std.specs.Prelude.{IsTrue, OnOk, Some};
 ghost use Rattle.prog_tree.specs.declared.cell.Cell.{Cell};
 ghost use Rattle.prog_tree.specs.ChangeSet.{change_at};
 ghost use Rattle.prog_tree.specs.Corners.{AreCorners};
 ghost use Rattle.prog_tree.specs.Table.{at_cell, Cells};
-ghost use Rattle.version_store.specs.Blocks.{AreEnded, AreEndedIn, HasAt, HasCell, HasSlot, IsKeyOf};
-ghost use Rattle.version_store.specs.Blocks.{IsPut, IsTaken, IsTrueBlock, LeavesFree, Reaches};
+ghost use Rattle.version_store.specs.Blocks.{AreEnded, AreEndedIn, HasAt, HasCell, HasSlot};
+ghost use Rattle.version_store.specs.Blocks.{IsKeyOf, IsPut, IsTaken, IsTrueBlock, LeavesFree, Reaches};
 ghost use Rattle.version_store.specs.Blocks.{StandsBehind, StaysTrue, one_block, with_block};
 ghost use Rattle.version_store.specs.declared.block.Slot.{Slot};
 ghost use Rattle.version_store.specs.StandsFor.{VersionChain};

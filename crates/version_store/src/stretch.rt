@@ -25,7 +25,7 @@ pub const NOTHING: Stretch = Stretch {
 };
 
 // The number of the version at a place, or another one where that is less or no version is there.
-fn number_at(versions: &[Version], place: usize, end: u64) -> u64
+fn till_at(versions: &[Version], place: usize, end: u64) -> u64
     ensures place { (d : ℕ × Option ℤ) → (n : ℕ) → n < result → place < length versions.now →
         n < (slice_index_or versions.now place d).0 }
     ensures end { (n : ℕ) → n < result → n < end }
@@ -47,7 +47,7 @@ pub fn stretch_among(versions: &[Version], number: u64, end: u64) -> Stretch
     ensures start { RisesFrom 0 versions.now → number < end → InStretch result number }
 {
     let count = count_within(versions, number);
-    let till = number_at(versions, count, end);
+    let till = till_at(versions, count, end);
     if count == 0 {
         return Stretch {
             since: 0,

@@ -20,7 +20,7 @@ use crate::instances::row::{HistoryRow, same_numbers};
 use crate::instances::ticket::Ticket;
 use prog_run::Run;
 use prog_tree::{Cell, Changes, Look, Region, RisingCells, RowPieces, Sequence, same_tables};
-use std::alloc::{AllocError, Global};
+use std::alloc::AllocError;
 use version_store::Clash;
 
 // Whether the last of some looks is this one.

@@ -143,7 +143,8 @@ impl<'c> CertificateText<'c> {
         CertificateText::with_slates(alloc, certificate, 0)
     }
 
-    /// The same, for threads to write it where it is long, which takes some memory more.
+    /// The text of a certificate, of which nothing was given, for threads to write it where it is
+    /// long, which takes some memory more.
     pub fn for_threads(alloc: Global, certificate: &'c Certificate) -> Result<Self, AllocError>
         ensures text { IfOk result (λ text. text_left text ≡ certificate_text certificate.now) }
         ensures fits { IfOk result (λ _. CertificateFits certificate.now) }
@@ -215,7 +216,8 @@ impl<'c> CertificateText<'c> {
         self.left = behind;
     }
 
-    /// The same by several threads, for a text that has room for them.
+    /// Goes on to the next piece, as `advance` does, by several threads where the text has room for
+    /// them.
     pub fn advance_par(&mut self, rt: &(impl Threads + Sync))
         ensures text { text_left self.new ≡ self.old.behind }
         ensures fewer { 0 < self.old.steps → self.new.steps < self.old.steps }

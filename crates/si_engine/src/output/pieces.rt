@@ -170,7 +170,7 @@ fn push_region(text: &mut String, tables: &[TableDecl], region: &Region) -> Resu
     push_region_in(text, name, arity, region)
 }
 
-/// Adds a region with what was found there.
+/// Adds a word, a region behind it, and what was found there.
 pub fn push_found<I: Integer>(
     text: &mut String,
     word: &str,
