@@ -3,7 +3,6 @@ mod AskedEntry
 mod Counting
 mod Counts
 mod Listing
-mod NoCertificate
 mod Ranges
 mod Spacing
 mod TellsMore

@@ -15,12 +15,12 @@ use Rattle.prog_tree.specs.Syntax.{ProgramTree}
 use Rattle.prog_tree.specs.Tree.{program_tree, draft_tree}
 use Rattle.history_book.specs.History.{Instance, IsCalled}
 use Rattle.history_book.specs.TrueBook.{IsTrueActive, IsTrueBook}
-use Rattle.history_book.specs.View.{BookView, most_begins, is_full, full_fault, start_fault, fault_at, fault_by, begin_at_fault_of, begin_fault_of, instance_at, most_endings}
+use Rattle.history_book.specs.View.{BookView, most_begins, is_full, full_fault, start_fault, fault_at, begin_at_fault_of, instance_at, most_endings}
 use Rattle.history_book.specs.declared.fault.BeginFault.{BeginFault}
 use Rattle.history_book.specs.declared.fault.BeginFault.TheVariants as begin
 use Rattle.history_book.proofs.ActiveLaws.{Entry, insert_last}
 use Rattle.history_book.proofs.BookLaws.{true-begin}
-use Rattle.history_book.proofs.TestLaws.{eq_tells, lt_not, not_lt}
+use Rattle.history_book.proofs.TestLaws.{eq_tells, lt_not}
 
 -- ---- what is wrong with a begin
 
@@ -30,22 +30,6 @@ pub fault_found : (v : BookView) (start : ℕ) (found : Option Program) (p : Pro
 fault_found v start found p args is same =
     ap (λ (f : Option Program). fault_at v start f args) is
     ∙ ap (λ b. if not b then Some begin.WrongArguments else option_or (start_fault v start) (full_fault v)) (eq_tells (length p.params.items) (length args) same)
-
--- nothing is wrong with a number between the floor and that of commits
-pub start_is_right : (v : BookView) (start : ℕ) → v.floor ≤ start → start ≤ length v.rows → start_fault v start ≡ None
-start_is_right v start above within =
-    ap (λ b. if b then Some (begin.TooOld v.floor) else (if nat_lt (length v.rows) start then Some (begin.TooNew (length v.rows)) else None)) (not_lt start v.floor above)
-    ∙ ap (λ b. if b then Some (begin.TooNew (length v.rows)) else None) (not_lt (length v.rows) start within)
-
--- at the newest number the number is never at fault
-pub newest_fault : (v : BookView) (program : ℕ) (args : List ℤ) → IsTrueBook v → begin_at_fault_of v (length v.rows) program args ≡ begin_fault_of v program args
-newest_fault v program args book = go (slice_get v.set.programs.items program)
-  where
-    go : (found : Option Program) → fault_at v (length v.rows) found args ≡ fault_by v found args
-    go None = refl
-    go (Some p) =
-        ap (λ (o : Option BeginFault). if not (length p.params.items == length args) then Some begin.WrongArguments else option_or o (full_fault v))
-        (start_is_right v (length v.rows) book.floor (omega arith))
 
 -- ---- a begin that nothing is wrong with
 

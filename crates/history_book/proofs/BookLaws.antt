@@ -9,10 +9,9 @@ use Rattle.std.specs.Cmp.{nat_cmp_is}
 use Rattle.std.specs.Ordering.{nat_cmp, is_eq}
 use Rattle.std.specs.declared.cmp.Ordering.TheVariants.{Equal}
 use Rattle.std.proofs.lemmas.List.{length-append, length-map, map-append}
-use Rattle.std.proofs.lemmas.List.Elements.{All-nil, All-push, All-weaker}
+use Rattle.std.proofs.lemmas.List.Elements.{All-push, All-weaker}
 use Rattle.prog_tree.specs.declared.program.Draft.{Draft}
 use Rattle.prog_tree.specs.ChangeSet.{ChangeSet}
-use Rattle.prog_tree.specs.Table.{TableState}
 use Rattle.prog_tree.specs.Tree.{draft_tree}
 use Rattle.version_store.specs.Clash.{IsClash}
 use Rattle.version_store.specs.StandsFor.{StoreView, StandsFor}
@@ -20,29 +19,13 @@ use Rattle.history_book.specs.History.{Instance, commits_of, IsCalled, IsLawful}
 use Rattle.history_book.specs.Runs.{IsCommit}
 use Rattle.history_book.specs.TrueBook.{IsTrueRow, IsTrueEnding, committed, IsTrueActive, IsTrueBook, IsStored}
 use Rattle.history_book.specs.Ticket.{TicketView}
-use Rattle.history_book.specs.View.{BookView, instance_of, history_of, commits_in, done_in, with_start, active_at, without, least_start, most_endings}
+use Rattle.history_book.specs.View.{BookView, instance_of, history_of, commits_in, done_in, active_at, without, least_start, most_endings}
 use Rattle.history_book.specs.declared.instances.row.Ending.{Ending}
 use Rattle.history_book.specs.declared.instances.row.Ending.TheVariants as ending
 use Rattle.history_book.specs.declared.instances.row.HistoryRow.{HistoryRow}
 use Rattle.history_book.proofs.ActiveLaws.{Entry, All-removed, length-removed, fewer-removed, All-found, with_start-is, least-from, least-below, least-within}
 use Rattle.history_book.proofs.EndingLaws.{true_rows-push, true_row-push, true_endings-push, committed-append, range-push}
-use Rattle.history_book.proofs.HistoryLaws.{length-commits_of, commits_of-push, lawful-nil, lawful-push}
-
-pub true-open : (set : Draft) (opening : TableState) →
-    IsTrueBook (record { set = set; opening = opening; rows = []; endings = []; active = []; begun = 0; floor = 0 })
-unfolding IsStrictlySortedBy
-true-open set opening =
-    let v : BookView = record { set = set; opening = opening; rows = []; endings = []; active = []; begun = 0; floor = 0 } in
-    record {
-      lawful = lawful-nil (draft_tree set) opening;
-      rows = All-nil (IsTrueRow (draft_tree set) opening []);
-      endings = All-nil (IsTrueEnding (draft_tree set) opening []);
-      numbered = refl;
-      active = All-nil (IsTrueActive v);
-      by_number = tt;
-      floor = omega arith;
-      few = omega arith;
-    }
+use Rattle.history_book.proofs.HistoryLaws.{length-commits_of, commits_of-push, lawful-push}
 
 pub true-begin :
     (v : BookView) (i : Instance) (active : List Entry) → IsTrueBook v → IsCalled (draft_tree v.set) i → v.floor ≤ i.start → i.start ≤ length v.rows →
@@ -246,22 +229,11 @@ start_known v t book found = go (active_at v t) refl found
         let known = (active_known v t i book is).1 in
         (subst (λ (n : ℕ). v.floor ≤ n) same known.floor, subst (λ (n : ℕ). n ≤ length v.rows) same known.start)
 
--- its number is there
-pub number_known : (v : BookView) (t : TicketView) → IsSome (active_at v t) → IsSome (lookup (is_at (nat_cmp t.number)) v.active)
-number_known v t found = go (lookup (is_at (nat_cmp t.number)) v.active) found
-  where
-    go : (o : Option Instance) → IsSome (with_start t.start o) → IsSome o
-    go None h = h
-    go (Some i) h = refl
-
 -- the least start is one that a vacuum may keep
 pub least_above : (v : BookView) → IsTrueBook v → v.floor ≤ least_start (length v.rows) v.active
 least_above v book =
     least-from (length v.rows) v.floor v.active
     (All-weaker (IsTrueActive v) (λ entry. v.floor ≤ entry.1.start) (λ entry old. old.floor) v.active book.active) book.floor
-
-pub least_within : (v : BookView) → least_start (length v.rows) v.active ≤ length v.rows
-least_within v = least-within (length v.rows) v.active
 
 -- ---- commits
 

@@ -1,5 +1,5 @@
 -- What walks that add pairs of commits keep.
-use Rattle.std.proofs.Common.{◌≡◌, ◌∙◌, ◌==◌, ℕ, ◌&&◌, ◌||◌, List, [], ◌∷◌, ◌++◌, length, refl, ap, sym}
+use Rattle.std.proofs.Common.{◌≡◌, ◌∙◌, ◌==◌, ℕ, ◌&&◌, ◌||◌, List, [], ◌++◌, length, refl, ap, sym}
 use Rattle.std.proofs.Math.Bool.{or_assoc, or_self_left, or-false}
 use Rattle.std.proofs.lemmas.List.Folds.{list_any-append}
 use Rattle.history_book.specs.Precedence.{precedes}
@@ -15,15 +15,6 @@ pub record Walk (rest all : Pairs) (old now : List (List ℕ)) : Type 0 where
 
 pub walk_begins : (all : Pairs) (old : List (List ℕ)) → Walk all all old old
 walk_begins all old = record { towards = λ i j. refl; commits = refl }
-
-pub walk_ends : (rest all : Pairs) (old now : List (List ℕ)) → rest ≡ [] → Walk rest all old now → AddsPairs all old now
-walk_ends rest all old now none walk = record {
-  commits = walk.commits;
-  pairs = λ i j.
-      sym (or-false (precedes now i j))
-      ∙ ap (λ (ps : Pairs). precedes now i j || is_pair_among ps i j) (sym none)
-      ∙ walk.towards i j;
-}
 
 pub walk_on : (left ps rest all : Pairs) (old now next : List (List ℕ)) → left ≡ ps ++ rest → Walk left all old now → AddsPairs ps now next → Walk rest all old next
 walk_on left ps rest all old now next is walk adds = record {
@@ -44,13 +35,6 @@ walk_skips ps rest all old now walk = record {
       (among-append ps rest i j ∙ sym (or_self_left (is_pair_among ps i j) (is_pair_among rest i j)) ∙ ap (λ b. is_pair_among ps i j || b) (sym (among-append ps rest i j)) ∙ sym (among-append ps (ps ++ rest) i j))
       ∙ walk.towards i j;
   commits = walk.commits;
-}
-
--- one pair was added
-pub one_pair : (a b : ℕ) (old new : List (List ℕ)) → length new ≡ length old → ((i j : ℕ) → precedes new i j ≡ (precedes old i j || ((i == a) && (j == b)))) → AddsPairs ((a, b) ∷ []) old new
-one_pair a b old new same adds = record {
-  commits = same;
-  pairs = λ i j. adds i j ∙ ap (λ x. precedes old i j || x) (sym (or-false ((i == a) && (j == b))));
 }
 
 -- nothing was added

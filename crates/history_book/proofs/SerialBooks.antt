@@ -1,5 +1,5 @@
 -- Serial runs along an order, and the books in which they were made.
-use Rattle.std.proofs.Common.{◌≡◌, ℕ, suc, ◌+◌, ◌-◌, ◌<◌, ◌≤◌, Bool, true, false, true≢false, List, [], ◌∷◌, ◌++◌, length, take, drop, get_or, refl, ap, sym, ◌∙◌, subst, append_assoc, append-nil, ◌⊎◌, inl, inr, leb, arith}
+use Rattle.std.proofs.Common.{◌≡◌, ℕ, suc, ◌+◌, ◌-◌, ◌<◌, ◌≤◌, Bool, true, false, true≢false, List, [], ◌∷◌, ◌++◌, length, take, drop, get_or, ap, sym, ◌∙◌, subst, append_assoc, arith}
 use Rattle.std.specs.Prelude.{Some, None, IsTrue, ◌↔◌, fold}
 use Rattle.std.proofs.Math.Seq.{take-length, drop-cons, drop-length}
 use Rattle.std.proofs.lemmas.Grind.{fold-append}
@@ -19,14 +19,13 @@ use Rattle.history_book.specs.History.{commits_of, eval_of, evaluation, nth_inst
 use Rattle.history_book.specs.Repeats.{newest_state, done_again, IsSameAgain, begun_again}
 use Rattle.history_book.specs.Serial.{Runs, Fits, is_each_once}
 use Rattle.history_book.specs.TrueBook.{IsTrueBook, IsTrueRow}
-use Rattle.history_book.specs.View.{BookView, new_book, instance_of, history_of, most_endings}
+use Rattle.history_book.specs.View.{BookView, instance_of, history_of, most_endings}
 use Rattle.history_book.specs.declared.instances.row.Ending.TheVariants.{Committed}
 use Rattle.history_book.specs.declared.instances.row.HistoryRow.{HistoryRow}
 use Rattle.history_book.proofs.HistoryLaws.{length-commits_of, commits_of-push}
 use Rattle.history_book.proofs.EndingLaws.{few_commits}
 use Rattle.history_book.proofs.StateLaws.{nth_instance-back}
 use Rattle.history_book.specs.Orders.{is_one_of}
-use Rattle.std.proofs.lemmas.Bool.Decides.{leb_tells}
 use Rattle.history_book.proofs.OnceLaws.{whole, not_twice, next_within}
 use Rattle.history_book.proofs.RepeatLaws.{again_is, never}
 
@@ -106,22 +105,6 @@ no_run v number rest m none runs =
 
 abbrev FitsIn : BookView → List ℕ → Type 0
 FitsIn v = Fits (draft_tree v.set) v.opening (history_of v.rows)
-
--- an order that has not each number once
-pub not_once : (v : BookView) (order : List ℕ) (once : Bool) → once ≡ is_each_once (length v.rows) order → once ≡ false → IsTrue false ↔ FitsIn v order
-not_once v order once is not = never (λ (fits : FitsIn v order).
-    let all : is_each_once (length v.rows) order ≡ true = ap (λ n. is_each_once n order) (sym (length-map v.rows instance_of)) ∙ fits.once in
-    true≢false (sym all ∙ sym is ∙ not))
-
-pub serial_open : (v serial : BookView) (order : List ℕ) → serial ≡ new_book v.set v.opening → IsSerial v serial order 0
-serial_open v serial order is = subst (λ (b : BookView). IsSerial v b order 0) (sym is) (record {
-  set = refl;
-  opening = refl;
-  active = refl;
-  endings = refl;
-  begun = refl;
-  runs = (λ r. r, λ r. r);
-})
 
 module _ (v serial : BookView) (order : List ℕ) (n number d : ℕ) (so_far : IsSerial v serial order n) (within : n < length order) (at : number ≡ get_or order n d) where
   here : drop n order ≡ number ∷ drop (suc n) order
@@ -217,26 +200,9 @@ NoneUpTo v placed k = (m : ℕ) → 1 ≤ m → m ≤ k → (rest : List ℕ) �
 once_in : (v : BookView) (order : List ℕ) → FitsIn v order → is_each_once (length v.rows) order ≡ true
 once_in v order fits = ap (λ n. is_each_once n order) (sym (length-map v.rows instance_of)) ∙ fits.once
 
--- where all are placed, no other order begins with them
-pub all_placed : (v : BookView) (placed rest : List ℕ) (b : Bool) → length placed ≡ length v.rows → IsTrue b ↔ FitsIn v placed → b ≡ false → FitsIn v (placed ++ rest) → ⊥
-all_placed v placed [] b size tells not fits = true≢false (sym (tells.1 (subst (FitsIn v) (append-nil placed) fits)) ∙ not)
-all_placed v placed (m ∷ rest) b size tells not fits =
-    let w = whole (length v.rows) (placed ++ m ∷ rest) (once_in v (placed ++ m ∷ rest) fits) in
-    absurd (omega (arith, w.size, length-append placed (m ∷ rest)))
-
 -- a number that is placed already can't be placed again
 pub placed_already : (v : BookView) (placed rest : List ℕ) (m : ℕ) → is_one_of placed m ≡ true → FitsIn v (placed ++ m ∷ rest) → ⊥
 placed_already v placed rest m has fits = not_twice (length v.rows) placed rest m has (once_in v (placed ++ m ∷ rest) fits)
-
--- one number more is tried
-pub one_more_tried : (v : BookView) (placed : List ℕ) (k : ℕ) → NoneUpTo v placed k → ((rest : List ℕ) → FitsIn v (placed ++ (k + 1) ∷ rest) → ⊥) → NoneUpTo v placed (k + 1)
-one_more_tried v placed k before here = λ m first last rest fits. go m (leb_tells m k) first last rest fits
-  where
-    go : (m : ℕ) → ((leb m k ≡ true) × (m ≤ k)) ⊎ ((leb m k ≡ false) × (k < m)) → 1 ≤ m → m ≤ k + 1 → (rest : List ℕ) → FitsIn v (placed ++ m ∷ rest) → ⊥
-    go m (inl le) first last rest fits = before m first le.1 rest fits
-    go m (inr more) first last rest fits =
-        let same : m ≡ k + 1 = omega (arith, more.1) in
-        here rest (subst (λ q. FitsIn v (placed ++ q ∷ rest)) same fits)
 
 -- where none of all numbers goes on, no order begins so
 pub none_begins : (v : BookView) (placed rest : List ℕ) (k : ℕ) → (length placed ≡ length v.rows → ⊥) → length v.rows ≤ k → NoneUpTo v placed k → FitsIn v (placed ++ rest) → ⊥

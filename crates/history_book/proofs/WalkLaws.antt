@@ -134,13 +134,6 @@ walk-new led cur walk at kept more = go (cases_Bool (is_one_of walk at))
     go (inl o) = let z = rw o at (kept at) in absurd (omega arith)
     go (inr o) = o
 
-pub walk-again : (led cur walk : List ℕ) (at : ℕ) → ((n : ℕ) → get_or cur n 0 ≡ (if is_one_of walk n then 0 else get_or led n 0)) → get_or led at 0 ≢ 0 → get_or cur at 0 ≡ 0 → is_one_of walk at ≡ true
-walk-again led cur walk at kept on none = go (cases_Bool (is_one_of walk at))
-  where
-    go : Either (is_one_of walk at) → is_one_of walk at ≡ true
-    go (inl o) = o
-    go (inr o) = absurd (on (sym (rw o at (kept at)) ∙ none))
-
 pub walk-same : (led cur walk : List ℕ) (at : ℕ) → ((n : ℕ) → get_or cur n 0 ≡ (if is_one_of walk n then 0 else get_or led n 0)) → 0 < get_or cur at 0 → get_or cur at 0 ≡ get_or led at 0
 walk-same led cur walk at kept more = rw (walk-new led cur walk at kept more) at (kept at)
 

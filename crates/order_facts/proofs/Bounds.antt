@@ -126,13 +126,6 @@ IsOrderly-from_ends fs h j k e = first (reaches-first fs (Number j) (Number k) e
     first (inl a) = number-below j (Number k) a
     first (inr w) = last w.0 w.1 (number-below j _ w.2) (reaches-last fs _ _ w.3)
 
-pub ends-from_IsOrderly : (fs : List Fact) → IsOrderly fs → HasOrderlyEnds fs
-ends-from_IsOrderly fs o f g i j e = o _ _ (reaches-trans fs _ _ _ (floor-reaches fs f.lo) (reaches-trans fs _ _ _ (along e) (reaches-ceiling fs g.hi)))
-  where
-    along : (f ≡ g) ⊎ (reaches fs f.hi g.lo ≡ true) → reaches fs f.lo g.hi ≡ true
-    along (inl p) = rw (← p) (reaches-fact fs f i)
-    along (inr r) = reaches-trans fs _ _ _ (reaches-fact fs f i) (reaches-trans fs _ _ _ r (reaches-fact fs g j))
-
 -- ---- the bounds
 
 -- the greatest of the floors of x and of the lower nodes of those of `gs` whose upper nodes reach x

@@ -152,10 +152,6 @@ reaches-from_Entails fs x y o h = go (cases_Bool (reaches fs x y))
     go (inl e) = e
     go (inr e) = let w = counter fs o x y e in absurd (w.3 (h w.0 w.1 (Meets-from_MeetsEach w.0 fs w.2)))
 
--- facts that nothing meets entail everything
-pub Entails-from_inconsistent : (fs : List Fact) (x y : Node) → (IsConsistent fs → ⊥) → Entails fs x y
-Entails-from_inconsistent fs x y no_way v o m = absurd (no_way (v, o, m))
-
 -- what `entails` answers where the facts are consistent
 pub Entails-exact : (fs : List Fact) (x y : Node) (r : Bool) → IsConsistent fs → r ≡ reaches fs x y → (r ≡ true) ↔ Entails fs x y
 Entails-exact fs x y r c e = (λ t. Entails-from_reaches fs x y (sym e ∙ t), λ h. e ∙ reaches-from_Entails fs x y (orderly_from_IsConsistent fs c) h)

@@ -35,13 +35,6 @@ next-step facts y reached k at t h e more = subst (λ (r : Reached). IsStep fact
     go (inl z) = let s = same in let w = z.0 in absurd (omega arith)
     go (inr l) = l.1
 
-pub IsDescending-from_trail : (facts : List Fact) (y : Node) (reached : List Reached) → IsTrail facts y reached → IsDescending reached
-IsDescending-from_trail facts y reached t k h = go (t k h)
-  where
-    go : IsLink facts y reached (reached_at reached k) → ((reached_at reached k).steps ≡ 0) ⊎ LeadsNearer reached (reached_at reached k)
-    go (inl z) = inl z.0
-    go (inr l) = inr l.0
-
 -- ---- more that was reached
 
 at-old : (old more : List Reached) (k : ℕ) → k < length old → reached_at (old ++ more) k ≡ reached_at old k
@@ -54,9 +47,6 @@ HasReached-append : (old more : List Reached) (node : Node) → HasReached old n
 HasReached-append old more node h = (h.0, (let l = h.1 in omega (arith, length-append old more)), ap (λ (r : Reached). r.node) (at-old old more h.0 h.1) ∙ h.2)
 
 -- ---- one level, end by end
-
-pub IsGrown-none : (facts : List Fact) (old : List Reached) (steps : ℕ) → IsGrown facts old old steps
-IsGrown-none facts old steps = record { more = []; appended = sym (append-nil old); fresh = λ k h. absurd (omega arith) }
 
 pub HasReached-adds : (facts : List Fact) (cur new : List Reached) (known : ℕ) (node : Node) (steps : ℕ) → Adds facts cur new known node steps → (u : Node) → HasReached cur u → HasReached new u
 HasReached-adds facts cur new known node steps a u h = go a.grows
@@ -142,17 +132,6 @@ pub record IsLevel (facts : List Fact) (x y : Node) (reached : List Reached) (n 
   pub complete : (u : Node) → IsCandidate facts y u → IsWithin facts y n u → HasReached reached u
   pub apart : IsWithin facts y n x → ⊥
   pub room : n < length reached
-
-pub IsLevel-start : (facts : List Fact) (x y : Node) → (x ≡ y → ⊥) → IsLevel facts x y (record { node = y; steps = 0; next = 0 } ∷ []) 0
-IsLevel-start facts x y apart = record { trail = trail; deep = deep; complete = λ u c w. (0, omega arith, sym w); apart = apart; room = omega arith }
-  where
-    trail : IsTrail facts y (record { node = y; steps = 0; next = 0 } ∷ [])
-    trail zero h = inl (refl, refl)
-    trail (suc k) h = absurd (omega arith)
-
-    deep : (k : ℕ) → k < 1 → (reached_at (record { node = y; steps = 0; next = 0 } ∷ []) k).steps ≤ 0
-    deep zero h = omega arith
-    deep (suc k) h = absurd (omega arith)
 
 module _ (facts : List Fact) (x y : Node) (old : List Reached) (n : ℕ) (l : IsLevel facts x y old n) (none : (k : ℕ) → k < length old → IsStep facts x (reached_at old k).node → ⊥) where
   -- x is no step from what was reached, so it is not within one step more

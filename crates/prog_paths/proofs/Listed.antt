@@ -1,7 +1,6 @@
 -- The list of paths, program by program.
-use Rattle.std.proofs.Common.{◌≡◌, ℕ, ◌+◌, ◌<◌, ◌≤◌, List, [], ◌∷◌, ◌++◌, map, length, get_or, refl, ap, sym, ◌∙◌}
+use Rattle.std.proofs.Common.{◌≡◌, ℕ, ◌<◌, ◌≤◌, List, [], ◌∷◌, map, length, get_or, refl}
 use Rattle.std.proofs.lemmas.Option.{slice_get_read}
-use Rattle.std.proofs.lemmas.List.{append_assoc}
 use Rattle.prog_tree.specs.declared.program.Program.{Program}
 use Rattle.prog_tree.specs.declared.program.Draft.{Draft}
 use Rattle.prog_tree.specs.declared.table.TableDecl.{TableDecl}
@@ -9,7 +8,7 @@ use Rattle.prog_tree.specs.Syntax.{Name}
 use Rattle.prog_tree.specs.Tree.{draft_tree, program_tree}
 use Rattle.prog_tree.proofs.Elements.{mapped_at}
 use Rattle.prog_check.specs.declared.path.Path.{Path}
-use Rattle.prog_check.specs.Paths.{Route, statement_count, path_of, program_paths, paths_from}
+use Rattle.prog_check.specs.Paths.{Route, statement_count, path_of}
 use Rattle.prog_check.specs.Sound.{IsSound}
 use Rattle.prog_paths.specs.Trails.{path_with, trail_of, along}
 
@@ -21,11 +20,3 @@ listed tables params n (r ∷ rs) = λ i. path_of tables n params r ∷ listed t
 -- a program of a sound draft has at most 256 statements
 pub few_of : (d : Draft) (n : ℕ) (p : Program) → IsSound (draft_tree d) → n < length d.programs.items → p ≡ get_or d.programs.items n p → statement_count (program_tree p).body ≤ 256
 few_of d n p sound inside is = (sound.programs n (program_tree p) (mapped_at program_tree d.programs.items n p (slice_get_read d.programs.items (length d.programs.items) n p refl inside is))).few_statements
-
--- one more program
-pub more_paths : (tables : List TableDecl) (n : ℕ) (p : Program) (ps later : List Program) (out now : List Path) → ps ≡ p ∷ later → now ≡ out ++ program_paths tables n (program_tree p) →
-    now ++ paths_from tables (n + 1) (map program_tree later) ≡ out ++ paths_from tables n (map program_tree ps)
-more_paths tables n p ps later out now is new =
-    ap (λ l. l ++ paths_from tables (n + 1) (map program_tree later)) new
-    ∙ append_assoc out (program_paths tables n (program_tree p)) (paths_from tables (n + 1) (map program_tree later))
-    ∙ ap (λ qs. out ++ paths_from tables n (map program_tree qs)) (sym is)

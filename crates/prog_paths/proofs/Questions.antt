@@ -94,12 +94,6 @@ pub if_append : (b : Bool) (q : Question) (l r : List Question) → (if b then q
 if_append true q l r = refl
 if_append false q l r = refl
 
-pub asked_by-yes : (first : Placed) (n : ℕ) (xs : List Placed) (d : Placed) → n < length xs → asks first (get_or xs n d) ≡ true → asked_by first (drop n xs) ≡ question_between first (get_or xs n d) ∷ asked_by first (drop (n + 1) xs)
-asked_by-yes first n xs d lt e = ap (asked_by first) (drop_more xs n d lt) ∙ if_yes (asks first (get_or xs n d)) (question_between first (get_or xs n d)) (asked_by first (drop (n + 1) xs)) e
-
-pub asked_by-no : (first : Placed) (n : ℕ) (xs : List Placed) (d : Placed) → n < length xs → asks first (get_or xs n d) ≡ false → asked_by first (drop n xs) ≡ asked_by first (drop (n + 1) xs)
-asked_by-no first n xs d lt e = ap (asked_by first) (drop_more xs n d lt) ∙ if_no (asks first (get_or xs n d)) (question_between first (get_or xs n d)) (asked_by first (drop (n + 1) xs)) e
-
 pub asked_by-append : (first : Placed) (xs ys : List Placed) → asked_by first (xs ++ ys) ≡ asked_by first xs ++ asked_by first ys
 asked_by-append first [] ys = refl
 asked_by-append first (x ∷ xs) ys =

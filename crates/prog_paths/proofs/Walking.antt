@@ -26,15 +26,6 @@ count_from (Plain st) rest = omega arith
 count_from (Fork t a b) rest = omega arith
 count_from (Loop l body) rest = omega arith
 
-and_true : (w b : Bool) → (w && b) ≡ ((w && true) && b)
-and_true true b = refl
-and_true false b = refl
-
-pub commits_from : (x : StmtTree) (rest : BlockTree) → commits (block_from x rest) ≡ (commits (alone x) && commits rest)
-commits_from (Plain st) rest = and_true (not (is_abort st)) (commits rest)
-commits_from (Fork t a b) rest = and_true (commits a || commits b) (commits rest)
-commits_from (Loop l body) rest = refl
-
 pub lets_first : (x : StmtTree) (t : TestTree) (a b : BlockTree) (r : Bool) → x ≡ Fork t a b → r ≡ true → r ≡ commits a → r ≡ commits (alone x)
 lets_first x t a b r is yes_ e = yes_ ∙ sym (ap (λ y. commits (alone y)) is ∙ ap (λ w. (w || commits b) && true) (sym e ∙ yes_))
 

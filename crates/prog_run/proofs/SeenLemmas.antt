@@ -155,10 +155,6 @@ pub record IsToMerge (m : TableState) (es : ChangedCells) : Type 0 where
   pub ordered : IsStrictlySortedBy cell_cmp (cells_of es)
   pub absent : AreAbsent m es
 
--- before the pass
-pub all_to_merge : (m : TableState) (es : ChangedCells) → IsStrictlySortedBy cell_cmp (cells_of es) → AreAbsent m es → IsToMerge m es
-all_to_merge m es ordered absent = record { ordered = ordered; absent = absent }
-
 -- one change is merged: so many rows stand before it
 module _ (own : ChangedCells) (i : ℕ) (d : Cell × Option ℤ) (left : TableState) (n : ℕ) (lt : i < length own) (count : n ≡ rows_before (get_or own i d).0 left) (more : IsToMerge left (drop i own)) where
   abbrev change : Cell × Option ℤ

@@ -130,13 +130,6 @@ listing_is tables l body env t has = by_region (region_of (number_of tables l.ta
     by_region None at found = absurd (cc)
     by_region (Some region) at found = record { region = region; found = at; is = cc }
 
-pub no_listing : (tables : List TableDecl) (l : ListingTree) (body : BlockTree) (env : Bindings) → listing_task tables l body env ≡ None → region_of (number_of tables l.table) l.range env ≡ None
-no_listing tables l body env none = by_region (region_of (number_of tables l.table) l.range env) none
-  where
-    by_region : (o : Option Region) → option_and_then (λ region. Some (task.Ask (OfRegion region (Lists l body)))) o ≡ None → o ≡ None
-    by_region None found = refl
-    by_region (Some region) found = absurd (cc)
-
 -- ---- the first statement of a block
 
 -- a block whose next task lists no rows begins with a statement without blocks

@@ -1,9 +1,8 @@
 -- Laws of the steps of a run.
-use Rattle.std.proofs.Common.{◌≡◌, List, [], ◌∷◌, ◌++◌, refl, ap, sym, subst, ◌∙◌, true, false, length}
+use Rattle.std.proofs.Common.{◌≡◌, List, [], ◌∷◌, ◌++◌, refl, ap, sym, subst, ◌∙◌, false, length}
 use Rattle.std.specs.Prelude.{ℤ, Option, Some, None, IfSome}
 use Rattle.prog_tree.specs.declared.cell.Cell.{Cell}
 use Rattle.prog_tree.specs.declared.cell.Region.{Region}
-use Rattle.prog_tree.specs.declared.deed.Cause.TheVariants.{Overflow}
 use Rattle.prog_tree.specs.declared.deed.Deed.TheVariants.{Listed}
 use Rattle.prog_tree.specs.declared.deed.End.{End}
 use Rattle.prog_tree.specs.declared.deed.End.TheVariants.{Ready, Aborted}
@@ -12,19 +11,18 @@ use Rattle.prog_tree.specs.declared.look.Look.TheVariants as look
 use Rattle.prog_tree.specs.declared.progress.Progress.{Progress}
 use Rattle.prog_tree.specs.declared.table.TableDecl.{TableDecl}
 use Rattle.prog_tree.specs.Syntax.{ListingTree, StatementTree, BlockTree, Then, StmtTree, Plain, Fork, Loop, block_from, ProgramTree}
-use Rattle.prog_tree.specs.ChangeSet.{change_at}
 use Rattle.prog_tree.specs.Steps.{did, looked}
 use Rattle.prog_tree.specs.Table.{TableState}
 use Rattle.prog_tree.specs.Evaluation.{Flow, with_value, and_then, ended, turns_of, own_cells, run_statement, rows_without}
 use Rattle.prog_run.specs.Todo.{TurnsTree, CursorTree, listed, with_rest, todo}
-use Rattle.prog_run.specs.Cursor.{BeginsWith, is_store_stmt, is_store, SameTodo, KeepsStore, IsOver}
-use Rattle.prog_run.specs.Task.{CellUseTree, RegionUseTree, Counts, Sums, Lists, AskedTree, OfCell, OfRegion, TaskTree, asked_tree, cell_use_tree, task_of, task_of_stmt, next_task, use_flow, rows_flow, task_flow}
+use Rattle.prog_run.specs.Cursor.{BeginsWith, is_store_stmt, is_store, SameTodo, KeepsStore}
+use Rattle.prog_run.specs.Task.{CellUseTree, RegionUseTree, Counts, Sums, Lists, AskedTree, OfCell, OfRegion, TaskTree, asked_tree, task_of, task_of_stmt, next_task, use_flow, rows_flow, task_flow}
 use Rattle.prog_run.specs.Task as task
 use Rattle.prog_run.specs.Looks.{AreFound, asked_by, region_look, seen_rows}
 use Rattle.prog_run.specs.Statement.{changes_with, IsFlow, IsBegun}
 use Rattle.prog_run.specs.Step.{next_of, asked_after, question_after, end_after, deeds_after, changes_after, rest_after, cursor_after, cursor_behind, IsAt, IsStep}
-use Rattle.prog_run.specs.View.{IsTrueTo, IsWaiting, asked_region, question_in}
-use Rattle.prog_run.specs.declared.next.Next.TheVariants.{Get, Scan}
+use Rattle.prog_run.specs.View.{IsTrueTo, asked_region, question_in}
+use Rattle.prog_run.specs.declared.next.Next.TheVariants.{Scan}
 use Rattle.prog_run.specs.declared.next.Next.{Next}
 use Rattle.prog_run.specs.declared.next.Step.{Step}
 use Rattle.prog_run.specs.declared.next.Step.TheVariants.{Asks, Did, Over}
@@ -32,8 +30,8 @@ use Rattle.prog_run.specs.declared.task.Asked.{Asked}
 use Rattle.prog_run.specs.declared.task.Asked.TheVariants as asked
 use Rattle.prog_run.proofs.FrontLemmas.{begins_same, begins_on}
 use Rattle.prog_run.proofs.LookLemmas.{found_last, found_same, asked_unchanged}
-use Rattle.prog_run.proofs.StatementLemmas.{IsDoneBy, lists, task_law, task_store, listing_is, no_listing, first_statement, first_listing, begun_done, listing_asks, listing_goes_on, cell_done, rows_done}
-use Rattle.prog_run.proofs.TodoLemmas.{todo_then, listing_goes, listing_stops}
+use Rattle.prog_run.proofs.StatementLemmas.{IsDoneBy, lists, task_law, task_store, listing_is, first_statement, first_listing, begun_done, listing_asks, listing_goes_on, cell_done, rows_done}
+use Rattle.prog_run.proofs.TodoLemmas.{todo_then, listing_goes}
 
 -- a task that is begun and asks is no step of the cursor
 asks_step : (tables : List TableDecl) (c d : CursorTree) (p q : Progress) (t : TaskTree) → next_task tables c.here.rest p.env ≡ Some t → (a : Asked) → d ≡ c → IsBegun t (Asks a) p q → IsStep tables (Asks a) c p d q
@@ -70,16 +68,6 @@ module _ (tables : List TableDecl) (statement : StatementTree) (rest : BlockTree
     step_of (Asks a) at h = asks_step tables c d p q t (ap (λ b. next_task tables b p.env) is ∙ has) a at h
     step_of (Did deed) at h = finished (Did deed) at (begun_done t (Did deed) p q h)
     step_of (Over end) at h = finished (Over end) at (begun_done t (Over end) p q h)
-
--- a statement without a task ends the run
-pub step_without : (tables : List TableDecl) (x : StmtTree) (rest : BlockTree) (c d : CursorTree) (p : Progress) → c.here.rest ≡ block_from x rest → is_store_stmt x ≡ true →
-    task_of_stmt tables x p.env ≡ None → IsStep tables (Over (Aborted Overflow)) c p d p
-step_without tables (Plain statement) rest c d p is store none =
-    let flow = λ (m : TableState). task_law tables m statement p store ∙ ap (λ o. with_value o p (λ t. task_flow m t p)) none in
-    (λ m f. ap ended (todo_then tables m statement rest c p is ∙ ap (λ r. and_then r (todo tables m (with_rest rest c))) (flow m)), λ m f. f, refl, refl, begins_same refl)
-step_without tables (Fork test a b) rest c d p is store none = absurd (cc)
-step_without tables (Loop l body) rest c d p is store none =
-    (λ m f. ap ended (listing_stops tables m l body rest c p is (no_listing tables l body p.env none)), λ m f. f, refl, refl, begins_same refl)
 
 -- any statement of the store that is begun
 pub step_of_stmt : (tables : List TableDecl) (x : StmtTree) (rest : BlockTree) (c d : CursorTree) (p q : Progress) → c.here.rest ≡ block_from x rest →
@@ -173,10 +161,6 @@ module _ (tables : List TableDecl) (c b d : CursorTree) (p r q : Progress) (same
   settled_then (Did deed) h = (λ m f. h.0 m f ∙ same tables m, λ m f. found_same p r k.looks m (h.1 m f), h.2 ∙ ap (λ ds. ds ++ deed ∷ []) k.deeds, h.3 ∙ ap (changes_with deed) k.changes, begins_on q.replies k.replies h.4)
   settled_then (Over end) h = (λ m f. ap ended (sym (same tables m)) ∙ h.0 m f, λ m f. found_same p r k.looks m (h.1 m f), h.2 ∙ k.deeds, h.3 ∙ k.changes, begins_on q.replies k.replies h.4)
 
-pub settled_over : (tables : List TableDecl) (end : End) (c d : CursorTree) (p q : Progress) →
-    IsOver end c p q → KeepsStore p q → IsStep tables (Over end) c p d q
-settled_over tables end c d p q over k = (λ m f. over tables m, found_same p q k.looks, k.deeds, k.changes, k.replies)
-
 -- ---- a run after a step
 
 -- where nothing was done, all is as before
@@ -200,15 +184,6 @@ pub true_answered : (tables : List TableDecl) (program : ProgramTree) (args : Li
 true_answered tables program args before after c d p q n goes_on ends t step =
     subst (λ o. IsTrueTo tables program args o d q) (sym ends)
     (true_after tables program args c d p q (subst (λ o. IsTrueTo tables program args o c p) goes_on t) n step)
-
--- after a step the run waits for what the next statement asks
-pub waits_after : (tables : List TableDecl) (c d : CursorTree) (p q : Progress) (n : Step) → IsStep tables n c p d q → IsWaiting tables (asked_after n) (end_after (next_of n)) d q
-waits_after tables c d p q (Asks (asked.OfCell cell usage)) h a e =
-    let same : asked.OfCell cell usage ≡ a = cc in (refl, subst (λ (x : Asked). IsAt tables (asked_tree x) d q) same h.3)
-waits_after tables c d p q (Asks (asked.OfRegion region usage)) h a e =
-    let same : asked.OfRegion region usage ≡ a = cc in (refl, subst (λ (x : Asked). IsAt tables (asked_tree x) d q) same h.3)
-waits_after tables c d p q (Did deed) h a e = absurd (cc)
-waits_after tables c d p q (Over end) h a e = absurd (cc)
 
 -- what a step adds to the deeds
 pub step_deeds : (tables : List TableDecl) (c d : CursorTree) (p q : Progress) (n : Step) → IsStep tables n c p d q → q.deeds ≡ deeds_after (next_of n) p.deeds
@@ -236,11 +211,3 @@ step_question (Asks (asked.OfCell cell usage)) = refl
 step_question (Asks (asked.OfRegion region usage)) = refl
 step_question (Did deed) = refl
 step_question (Over end) = refl
-
--- after a step the run asks for no cell that it has changed
-pub step_unchanged : (tables : List TableDecl) (c d : CursorTree) (p q : Progress) (n : Step) → IsStep tables n c p d q → (cell : Cell) → next_of n ≡ Get cell → change_at q.changes cell ≡ None
-step_unchanged tables c d p q (Asks (asked.OfCell k usage)) h cell e =
-    let same : k ≡ cell = cc in subst (λ (x : Cell). change_at q.changes x ≡ None) same (asked_unchanged q.changes k (cell_use_tree usage) h.3.1)
-step_unchanged tables c d p q (Asks (asked.OfRegion region usage)) h cell e = absurd (cc)
-step_unchanged tables c d p q (Did deed) h cell e = absurd (cc)
-step_unchanged tables c d p q (Over end) h cell e = absurd (cc)

@@ -170,13 +170,6 @@ branch_weight test a b rest scope c v is =
     let outer = fold-append (λ (n : ℕ) (o : OpenTree). n + open_weight o) 0 c.outer (record c.here { rest = rest } ∷ []) in
     omega (arith, outer, weight_chosen a b v, ap weight is)
 
--- where nothing was done, what is left is the same
-pub nothing_done : (c d : CursorTree) (p q : Progress) → d ≡ c → q ≡ p → SameTodo c p d q × KeepsStore p q
-nothing_done c d p q at is = (
-  λ tables m i. todo tables m (at i) (is i),
-  record { deeds = ap (λ (r : Progress). r.deeds) is; changes = ap (λ (r : Progress). r.changes) is; looks = ap (λ (r : Progress). r.looks) is; replies = begins_same (ap (λ (r : Progress). r.replies) is) },
-)
-
 -- to enter the block that the test chooses is a step
 pub branch_moves : (test : TestTree) (a b rest : BlockTree) (c d : CursorTree) (p : Progress) (v : Bool) →
     c.here.rest ≡ Branch test a b rest → holds_of test p.env ≡ Some v →

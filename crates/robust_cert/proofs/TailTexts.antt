@@ -1,8 +1,8 @@
 -- The tails of reasons, one for each.
-use Rattle.std.proofs.Common.{◌≡◌, ℕ, ◌<◌, ◌≤◌, ◌+◌, List, [], ◌∷◌, ◌++◌, length, map, take, get_or, String, string_bytes, sym, subst, ap, ◌∙◌}
+use Rattle.std.proofs.Common.{◌≡◌, ℕ, ◌<◌, ◌+◌, List, [], ◌∷◌, ◌++◌, length, map, take, get_or, String, string_bytes, sym, subst, ap, ◌∙◌}
 use Rattle.std.specs.Prelude.{All}
 use Rattle.std.specs.declared.alloc.Global.{Global}
-use Rattle.std.proofs.lemmas.List.{take_more, take_all, length-map, map-append, get_or-map}
+use Rattle.std.proofs.lemmas.List.{take_more, length-map, map-append, get_or-map}
 use Rattle.std.proofs.lemmas.List.Elements.{All-push}
 use Rattle.robust_cert.specs.declared.entries.Reason.{Reason}
 use Rattle.robust_cert.specs.declared.entries.Reason.TheVariants.{Apart}
@@ -20,9 +20,6 @@ tails-more rs i r old new tail lt here h is text fits =
           ∙ sym (map-append tail_text (take i rs) (r ∷ [])) ∙ ap (map tail_text) (sym more);
       fit = subst (All ReasonFits) (sym more) (All-push ReasonFits (take i rs) r h.fit fits);
     }
-
-pub tails-all : (rs : List Reason) (i : ℕ) (tails : List (String Global)) → length rs ≤ i → AreTailsOf (take i rs) tails → AreTailsOf rs tails
-tails-all rs i tails past h = subst (λ (l : List Reason). AreTailsOf l tails) (take_all i rs past) h
 
 module _ (rs : List Reason) (tails : List (String Global)) (h : AreTailsOf rs tails) (n : ℕ) (within : n < length rs) where
   pub tail-within : n < length tails

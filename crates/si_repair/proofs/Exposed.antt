@@ -4,10 +4,10 @@ use Rattle.std.specs.Prelude.{Some, slice_get, All, if◌then◌else◌}
 use Rattle.std.proofs.lemmas.Bool.{eq-eqb, eqb-true}
 use Rattle.std.proofs.lemmas.List.{take_more, append-nil}
 use Rattle.std.proofs.lemmas.List.Elements.{Contains-append_left, Contains-append_right, Contains-append_cases, Contains-push, Contains-push_cases, Contains-get_or, All-contains}
-use Rattle.std.proofs.lemmas.Option.{none-some, same_Some, slice_get_within, get_or_from_slice_get, slice_get-get_or}
+use Rattle.std.proofs.lemmas.Option.{none-some, same_Some}
 use Rattle.prog_check.specs.declared.path.Access.{Access}
 use Rattle.prog_check.specs.declared.path.Path.{Path}
-use Rattle.prog_paths.specs.StaticGraph.{IsAccessOf, AsksOf}
+use Rattle.prog_paths.specs.StaticGraph.{AsksOf}
 use Rattle.prog_paths.specs.declared.accesses.places.Placed.{Placed}
 use Rattle.prog_paths.specs.declared.accesses.questions.Question.{Question}
 use Rattle.prog_paths.specs.Questions.{asks, numbers_of, question_between, asked_by, asked_among, questions_of}
@@ -20,7 +20,6 @@ use Rattle.repair_laws.specs.declared.plan.Pair.{Pair}
 use Rattle.repair_laws.specs.Striking.{IsOfProgram}
 use Rattle.repair_laws.specs.Keys.{ExposedOf}
 use Rattle.si_repair.specs.Exposed.{IsPart, AreExposed, ArePlacesOf, ArePlacesOfPair, MayMiss, IsExposedTo, IsExposedOf, AreExposedAmong}
-use Rattle.conflict_pairs.specs.Alike.{HasAccess}
 use Rattle.si_repair.proofs.Members.{just_one}
 use Rattle.si_repair.proofs.Parts.{part-none, part-whole, part-append, part-contains, part-trans, part-among}
 
@@ -45,20 +44,6 @@ still_first {A = A} n xs d x lt c = subst (λ (l : List A). Contains l x) (sym (
 
 pub last_first : {A : Type 0} (n : ℕ) (xs : List A) (d : A) → n < length xs → Contains (take (n + 1) xs) (get_or xs n d)
 last_first {A = A} n xs d lt = subst (λ (l : List A). Contains l (get_or xs n d)) (sym (take_more xs n d lt)) (Contains-push (take n xs) (get_or xs n d))
-
--- ---- accesses at their places
-
-pub node_there : (nodes : List Path) (x a : ℕ) → HasAccess nodes x a → x < length nodes
-node_there nodes x a h = slice_get_within nodes x h.1.0 h.1.1
-
-pub access_there : (nodes : List Path) (x a : ℕ) (path : Path) → path ≡ get_or nodes x path → (h : HasAccess nodes x a) → slice_get path.accesses a ≡ Some h.0
-access_there nodes x a path is h =
-    subst (λ (p : Path). slice_get p.accesses a ≡ Some h.0) (sym (is ∙ get_or_from_slice_get nodes x h.1.0 path h.1.1)) h.1.2
-
-pub access_is : (nodes : List Path) (x a : ℕ) (path : Path) (d : Access) → path ≡ get_or nodes x path → HasAccess nodes x a → IsAccessOf nodes x a (get_or path.accesses a d)
-access_is nodes x a path d is h =
-    let there = access_there nodes x a path is h in
-    (path, slice_get-get_or nodes x path (node_there nodes x a h) ∙ ap Some (sym is), slice_get-get_or path.accesses a d (slice_get_within path.accesses a h.0 there))
 
 -- ---- the accesses of a program
 

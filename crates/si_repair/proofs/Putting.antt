@@ -3,7 +3,7 @@ use Rattle.std.proofs.Common.{◌≡◌, ℕ, suc, ◌+◌, ◌<◌, Bool, true,
 use Rattle.std.specs.Prelude.{Option, Some, None, option_map, slice_get, if◌then◌else◌, ◌==◌, All}
 use Rattle.std.specs.List.{flat_map}
 use Rattle.std.proofs.lemmas.Bool.{eqb-true}
-use Rattle.std.proofs.lemmas.List.Elements.{All-nil, All-cons, All-weaker}
+use Rattle.std.proofs.lemmas.List.Elements.{All-nil, All-cons}
 use Rattle.std.proofs.lemmas.List.{get_or-map, length-map, length-take-le, map-append, take_more}
 use Rattle.std.proofs.lemmas.Option.{slice_get-get_or, slice_get-map}
 use Rattle.prog_tree.specs.Syntax.{StatementTree, BlockTree, BlockEnd, Plain, block_from, ProgramTree, DraftTree}
@@ -116,6 +116,3 @@ columns_of draft n p at m key = go (m.pair.from == n) refl (m.pair.to == n) refl
     go true e false f = one (first_of m.key) (first e)
     go false e true f = one (second_of m.key) (second f)
     go false e false f = All-nil (IsColumn (length p.params))
-
-pub columns_from_keys : (draft : DraftTree) (made : List NewTable) → All (HasKey draft) made → HaveColumns draft.programs made
-columns_from_keys draft made keys n p at = All-weaker (HasKey draft) (HasColumns n (length p.params)) (columns_of draft n p at) made keys

@@ -71,17 +71,6 @@ by_last (suc a) (suc b) h = next (by_last a b (omega (arith, h)))
     next (inl k) = inl (omega (arith, k))
     next (inr k) = inr (ap suc k)
 
-pub params_with-next : (i n : ℕ) → params_with i (n + 1) ≡ params_with i n ++ (i, n) ∷ []
-params_with-next i n = let e : n + 1 ≡ suc n = omega arith in ap (params_with i) e
-
-pub all_pairs-next : (n seconds : ℕ) → all_pairs (n + 1) seconds ≡ all_pairs n seconds ++ params_with n seconds
-all_pairs-next n seconds = let e : n + 1 ≡ suc n = omega arith in ap (λ (m : ℕ). all_pairs m seconds) e
-
--- one more pair at the end of pairs
-pub pairs-more : (old now new : List (ℕ × ℕ)) (i n : ℕ) → new ≡ now ++ (i, n) ∷ [] → now ≡ old ++ params_with i n → new ≡ old ++ params_with i (n + 1)
-pairs-more old now new i n added h =
-    added ∙ ap (λ (l : List (ℕ × ℕ)). l ++ (i, n) ∷ []) h ∙ append_assoc old (params_with i n) ((i, n) ∷ []) ∙ ap (λ (l : List (ℕ × ℕ)). old ++ l) (sym (params_with-next i n))
-
 of_pairs : (i n : ℕ) (p : ℕ × ℕ) → Contains (params_with i n) p → (p.0 ≡ i) × (p.1 < n)
 of_pairs i zero p c = absurd (nothing p c)
 of_pairs i (suc n) p c = go (Contains-push_cases (params_with i n) (i, n) p c) (λ k. of_pairs i n p k)

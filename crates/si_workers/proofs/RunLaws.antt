@@ -127,13 +127,6 @@ promised kept given jobs done v r same taken holds as_kept =
       fault-settled given jobs done v r taken holds settled,
     )
 
--- likewise of work in which memory ran out before it was settled
-pub promised-lacking :
-    (kept given : Assigned) (jobs : List Job) (v : BookView) (book : Option BookView) →
-    kept ≡ given → AreTaken given.workers jobs → IsTrueBook v → IsHandedOut kept v book → IsWorkFault given jobs (Memory book)
-promised-lacking kept given jobs v book same taken holds as_kept =
-    handed-out given jobs [] v book taken holds (subst (λ (a : Assigned). IsHandedOut a v book) same as_kept)
-
 -- work that was done leaves a book over a set without a dangerous structure where it was given one
 pub safe-work :
     (given : Assigned) (jobs : List Job) (r : Result Worked WorkFault) → (IsDangerous (paths_of given.set) → ⊥) →

@@ -5,5 +5,4 @@ pub mod PieceLaws
 pub mod QuietLines
 pub mod RefusalVectors
 pub mod RepairLemmas
-pub mod SeparatorLaws
 pub mod StopLaws

@@ -55,9 +55,6 @@ key_none slots cell key slot apart first outside k s at inside =
     let same = (first_holds slots cell key slot apart first k s at inside).1 in
     let clash : true ≡ false = sym inside ∙ ap (λ (x : Slot). is_in x.region cell) (sym same) ∙ outside in absurd (cc)
 
-pub key_nowhere : (slots : Cells Slot) (cell : Cell) → AreApart slots → filter (λ e. is_from cell e.0) slots ≡ [] → IsKeyOf slots cell None
-key_nowhere slots cell apart none k s at inside = absurd (none_passes (is_from cell) slots none k s at (le_from cell k ((apart k s at).0 cell inside)))
-
 -- ---- room for a slot
 
 not_from : (cell key : Cell) → is_from cell key ≡ false → cell_cmp key cell ≡ Less
@@ -109,18 +106,12 @@ pub one_high : (region : Region) (low high l h : Cell) → AreCorners region (So
 one_high region low high l h corners others =
     same_order high h (corner_high region l h others high corners.0.1) (corner_high region low high corners h others.0.1)
 
-pub no_corners : (region : Region) (low high : Cell) → AreCorners region None → AreCorners region (Some (low, high)) → ⊥
-no_corners region low high none corners = let clash : true ≡ false = sym corners.0.0 ∙ none low in absurd (cc)
-
 -- a region stands behind a cell where its first corner does, and where it has no cell
 pub behind_first : (region : Region) (cell low high : Cell) → AreCorners region (Some (low, high)) → is_lt (cell_cmp cell low) ≡ true → StandsBehind cell region
 behind_first region cell low high corners less c inside = less_le cell low c (is_less _ less) (corner_low region low high corners c inside)
 
 pub first_behind : (region : Region) (cell low high : Cell) → AreCorners region (Some (low, high)) → StandsBehind cell region → is_lt (cell_cmp cell low) ≡ true
 first_behind region cell low high corners behind = ap is_lt (behind low corners.0.0)
-
-pub none_behind : (region : Region) (cell : Cell) → AreCorners region None → StandsBehind cell region
-none_behind region cell none c inside = let clash : true ≡ false = sym inside ∙ none c in absurd (cc)
 
 pub free_before :
     (slots : Cells Slot) (low high key : Cell) (slot : Slot) → AreApart slots → IsFirst (is_from low) slots key slot →

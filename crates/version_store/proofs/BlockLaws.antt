@@ -79,13 +79,6 @@ put_true floor chains m n key slot h put all c = subst (IsTrueAt floor chains) (
     go true = h
     go false = all c
 
--- what stands at the key
-pub put_at : (m n : Cells Slot) (key : Cell) (slot : Slot) → IsPut m n key slot → at_cell n key ≡ Some slot
-put_at m n key slot put = put key ∙ ap (λ b. cond b (Some slot) (at_cell m key)) (same-itself key)
-
-pub taken_at : (m n : Cells Slot) (key : Cell) → IsTaken m n key → at_cell n key ≡ None
-taken_at m n key taken = taken key ∙ ap (λ b. cond b None (at_cell m key)) (same-itself key)
-
 pub taken_true : (floor : ℕ) (chains : Cells VersionChain) (m n : Cells Slot) (key : Cell) → IsTaken m n key → AreTrue floor chains m → AreTrue floor chains n
 taken_true floor chains m n key taken all c = subst (IsTrueAt floor chains) (sym (taken c)) (go (is_same_cell key c))
   where
@@ -128,9 +121,6 @@ put_ends number m n cell key slot is_key put c s at inside = go (put_cases m n k
             let here : at_cell n c ≡ Some (ended_slot number slot) = put c ∙ ap (λ b. cond b (Some (ended_slot number slot)) (at_cell m c)) (ap (λ k. is_same_cell k c) is ∙ same-itself c) in
             let this : ended_slot number slot ≡ s = same_Some (ended_slot number slot) s (sym here ∙ at) in
             subst (EndsBefore number) this (ended_ends number slot)
-
-pub none_ends : (number : ℕ) (m : Cells Slot) (cell : Cell) → IsKeyOf m cell None → AreEnded number cell m
-none_ends number m cell is_key c s at inside = let never = is_key c s at inside in absurd (cc)
 
 pub put_still :
     (n number : ℕ) (before after : Cells Slot) (c key : Cell) (slot : Slot) → Some slot ≡ at_cell before key → IsPut before after key (ended_slot number slot) →

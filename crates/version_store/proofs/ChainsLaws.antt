@@ -1,6 +1,6 @@
 -- Laws of one written chain.
-use Rattle.std.proofs.Common.{◌≡◌, ◌∙◌, Bool, true, false, cond, if◌then◌else◌, refl, ap, sym, subst}
-use Rattle.std.specs.Prelude.{Option, Some, None, IsSome, Result, Ok, Err, OnErr, unwrap_or}
+use Rattle.std.proofs.Common.{◌≡◌, ◌∙◌, Bool, true, false, cond, if◌then◌else◌, refl, ap, subst}
+use Rattle.std.specs.Prelude.{Option, Some, IsSome, Result, Ok, Err, OnErr, unwrap_or}
 use Rattle.prog_tree.specs.declared.cell.Cell.{Cell}
 use Rattle.prog_tree.specs.Table.{Cells, at_cell, is_same_cell}
 use Rattle.prog_tree.proofs.TableStates.{cell_is}
@@ -35,14 +35,3 @@ same_chains m n cell h c = h c ∙ go (is_same_cell cell c)
 pub at_error : {T E P : Type 0} (r : Result T E) → P → OnErr r P
 at_error (Ok x) p = tt
 at_error (Err e) p = p
-
--- where a cell has no chain, what makes nothing of nothing changes nothing
-pub not_made : (m : Cells VersionChain) (cell : Cell) (f : VersionChain → VersionChain) → None ≡ at_cell m cell → no_chain ≡ f no_chain → MakesAt cell f m m
-not_made m cell f absent none c = go (is_same_cell cell c) (λ same. cell_is cell c same)
-  where
-    here : chain_at m cell ≡ f (chain_at m cell)
-    here = ap (λ o. unwrap_or o no_chain) (sym absent) ∙ none ∙ ap (λ o. f (unwrap_or o no_chain)) absent
-
-    go : (b : Bool) → (b ≡ true → cell ≡ c) → chain_at m c ≡ (if b then f (chain_at m c) else chain_at m c)
-    go true same = ap (chain_at m) (sym (same refl)) ∙ here ∙ ap (λ x. f (chain_at m x)) (same refl)
-    go false same = refl

@@ -9,7 +9,7 @@ use Rattle.prog_tree.specs.Table.{Cells, at_cell, is_same_cell, is_cell_among, i
 use Rattle.prog_tree.proofs.TableStates.{cell_is}
 use Rattle.version_store.specs.declared.block.RowBlock.{RowBlock}
 use Rattle.version_store.specs.declared.block.Slot.{Slot}
-use Rattle.version_store.specs.Blocks.{IsTrueBlock, IsTrueSlot, IsTrueAt, AreTrue, EndsBefore, AreEnded, AreEndedIn, HasCell}
+use Rattle.version_store.specs.Blocks.{IsTrueBlock, IsTrueSlot, AreTrue, EndsBefore, AreEnded, AreEndedIn, HasCell}
 use Rattle.version_store.specs.Reading.{chain_at, value_at, with_commit, with_change_by, with_mark_by, MakesEach}
 use Rattle.version_store.specs.Regions.{seen_in, IsSeen}
 use Rattle.version_store.specs.StandsFor.{VersionChain}
@@ -70,9 +70,6 @@ true_behind floor n w before after slots made ends =
 abbrev pub EndsGone : (n : ℕ) → ChangedCells → (left : ChangedCells) → Cells Slot → Type 0
 EndsGone n cells left slots = (c : Cell) → is_some (at_cell cells c) ≡ true → is_some (at_cell left c) ≡ false → AreEnded n c slots
 
-pub gone_first : (n : ℕ) (cells left : ChangedCells) (slots : Cells Slot) → left ≡ cells → EndsGone n cells left slots
-gone_first n cells left slots is c some none = let clash : true ≡ false = sym some ∙ ap (λ (es : ChangedCells). is_some (at_cell es c)) (sym is) ∙ none in absurd (cc)
-
 pub gone_more :
     (n : ℕ) (cells left rest : ChangedCells) (k : Cell) (x : Option ℤ) (old new : Cells Slot) → left ≡ (k, x) ∷ rest → EndsGone n cells left old →
     AreEnded n k new → ((c : Cell) → AreEnded n c old → AreEnded n c new) → EndsGone n cells rest new
@@ -89,10 +86,3 @@ gone_all n cells left slots none h c some = h c some (ap (λ (es : ChangedCells)
 pub done_ends : (n : ℕ) (done : Option Region) (slots : Cells Slot) (c : Cell) → IfSome done (λ (region : Region). AreEndedIn n region slots) → HasCell done c → AreEnded n c slots
 done_ends n None slots c ended has = absurd has
 done_ends n (Some region) slots c ended has = ended c has
-
--- where there are no slots, none has a cell
-pub none_ended : (n : ℕ) (c : Cell) (slots : Cells Slot) → slots ≡ [] → AreEnded n c slots
-none_ended n c slots none key slot at inside = let never : None ≡ Some slot = sym (ap (λ (es : Cells Slot). at_cell es key) none) ∙ at in absurd (cc)
-
-pub none_true : (floor : ℕ) (chains : Cells VersionChain) (slots : Cells Slot) → slots ≡ [] → AreTrue floor chains slots
-none_true floor chains slots none key = subst (λ (es : Cells Slot). IsTrueAt floor chains (at_cell es key)) (sym none) tt

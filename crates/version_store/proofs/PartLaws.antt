@@ -1,5 +1,5 @@
 -- The rows of a part of a region.
-use Rattle.std.proofs.Common.{◌≡◌, ◌∙◌, ℕ, ◌+◌, ◌<◌, ℤ, Bool, true, false, cond, ◌==◌, ◌&&◌, [], ◌∷◌, ◌++◌, length, drop, get_or, refl, ap, sym, subst, arith, add-one, append_assoc, drop-cons}
+use Rattle.std.proofs.Common.{◌≡◌, ◌∙◌, ℕ, ◌+◌, ℤ, Bool, true, false, cond, ◌==◌, ◌&&◌, ◌++◌, drop, refl, ap, sym, subst, arith}
 use Rattle.std.specs.Int.{int_max, int_min, w64}
 use Rattle.std.specs.Prelude.{Option, None, FitsSigned, int_le, int_lt}
 use Rattle.std.proofs.lemmas.Bool.{and_parts}
@@ -17,26 +17,9 @@ use Rattle.version_store.proofs.SplitLaws.{is_le}
 
 -- ---- the rows that are kept
 
--- from one row on
-from_row : (region : Region) (rows : TableState) (i : ℕ) (d row : Cell × ℤ) (b : Bool) → i < length rows → row ≡ get_or rows i d → is_in region row.0 ≡ b →
-    rows_in region (drop i rows) ≡ cond b (row ∷ rows_in region (drop (i + 1) rows)) (rows_in region (drop (i + 1) rows))
-from_row region rows i d row b lt e inside =
-    let split : drop i rows ≡ get_or rows i d ∷ drop (i + 1) rows = rw add-one (drop-cons rows i d lt) in
-    ap (rows_in region) (split ∙ ap (λ r. r ∷ drop (i + 1) rows) (sym e))
-    ∙ ap (λ t. cond t (row ∷ rows_in region (drop (i + 1) rows)) (rows_in region (drop (i + 1) rows))) inside
-
 -- with the kept rows of what is left, those that were kept are all that are to be kept
 abbrev pub Keeps : Region → (rows : TableState) → (i : ℕ) → (kept : TableState) → Type 0
 Keeps region rows i kept = kept ++ rows_in region (drop i rows) ≡ rows_in region rows
-
-pub keeps_row : (region : Region) (rows : TableState) (i : ℕ) (d row : Cell × ℤ) (kept : TableState) → i < length rows → row ≡ get_or rows i d → is_in region row.0 ≡ true →
-    Keeps region rows i kept → Keeps region rows (i + 1) (kept ++ row ∷ [])
-keeps_row region rows i d row kept lt e inside so_far =
-    append_assoc kept (row ∷ []) (rows_in region (drop (i + 1) rows)) ∙ ap (λ more. kept ++ more) (sym (from_row region rows i d row true lt e inside)) ∙ so_far
-
-pub leaves_row : (region : Region) (rows : TableState) (i : ℕ) (d row : Cell × ℤ) (kept : TableState) → i < length rows → row ≡ get_or rows i d → is_in region row.0 ≡ false →
-    Keeps region rows i kept → Keeps region rows (i + 1) kept
-leaves_row region rows i d row kept lt e outside so_far = ap (λ more. kept ++ more) (sym (from_row region rows i d row false lt e outside)) ∙ so_far
 
 -- ---- a part of a region
 
@@ -72,10 +55,6 @@ by_part n slot part rows is_part of_slot floor above chains holds = (
     go : (c : Cell) (b : Bool) → is_in part c ≡ b → cond b (seen_in slot.region n c (chain_at chains c)) None ≡ cond b (value_at n (chain_at chains c)) None
     go c true inside = ap (λ t. cond t (value_at n (chain_at chains c)) None) (in_part part slot.region c is_part inside)
     go c false outside = refl
-
--- all rows of a slot
-pub by_whole : (n : ℕ) (slot : Slot) (part : Region) (rows : TableState) → part ≡ slot.region → IsOfSlot n slot rows → IsBySlot n slot part rows
-by_whole n slot part rows same of_slot = subst (λ (r : Region). IsBySlot n slot r rows) (sym same) of_slot
 
 -- what two regions have in common is a part of both where there is such a part
 pub common_parts : (one other part found : Region) → found ≡ in_common one other → IsCommon one other part → IsPart found one × IsPart found other

@@ -7,31 +7,15 @@ use Rattle.std.proofs.lemmas.List.Elements.{filter-append}
 use Rattle.prog_tree.specs.declared.cell.Cell.{Cell}
 use Rattle.prog_tree.specs.declared.cell.Region.{Region}
 use Rattle.prog_tree.specs.ChangeSet.{ChangeSet, change_at}
-use Rattle.prog_tree.specs.Table.{Cells, is_cell_among, is_in, row_at, TableState}
+use Rattle.prog_tree.specs.Table.{Cells, is_cell_among, is_in}
 use Rattle.version_store.specs.declared.block.RowBlock.{RowBlock}
 use Rattle.version_store.specs.declared.block.Slot.{Slot}
 use Rattle.version_store.specs.Blocks.{IsTrueBlock, AreTrue}
-use Rattle.version_store.specs.Reading.{AllRise, AreBelow, IsBelow, KeepsBelow, MakesEach, MayBeTrimmed, MayTrim, RisesFrom, chain_at, value_at, version_number, with_change_by, with_commit, with_mark_by, with_opening_row}
+use Rattle.version_store.specs.Reading.{AllRise, AreBelow, IsBelow, MakesEach, MayBeTrimmed, MayTrim, RisesFrom, chain_at, value_at, version_number, with_change_by, with_commit, with_mark_by}
 use Rattle.version_store.specs.Regions.{seen_in, IsSeen}
-use Rattle.version_store.specs.StandsFor.{VersionChain, no_chain}
+use Rattle.version_store.specs.StandsFor.{VersionChain}
 use Rattle.version_store.proofs.BlockLaws.{all_true}
 use Rattle.version_store.proofs.TrimLaws.{filtered_rest, trimmed_below, trimmed_rises, value_trimmed}
-
--- ---- opening rows
-
-pub opened_rise : (opening : TableState) (chains : Cells VersionChain) → MakesEach (λ c. with_opening_row (row_at opening c)) [] chains → AllRise chains
-opened_rise opening chains made c = subst (λ (x : VersionChain). RisesFrom 0 x.versions) (sym (made c)) (go (row_at opening c))
-  where
-    go : (o : Option ℤ) → RisesFrom 0 (with_opening_row o no_chain).versions
-    go None = tt
-    go (Some v) = (omega arith, tt)
-
-pub opened_below : (opening : TableState) (chains : Cells VersionChain) → MakesEach (λ c. with_opening_row (row_at opening c)) [] chains → AreBelow 1 chains
-opened_below opening chains made c = subst (IsBelow 1) (sym (made c)) (go (row_at opening c))
-  where
-    go : (o : Option ℤ) → IsBelow 1 (with_opening_row o no_chain)
-    go None = refl
-    go (Some v) = refl
 
 -- ---- a commit
 
@@ -89,14 +73,6 @@ committed_rise n w before after made below rise c =
 
 pub committed_below : (n : ℕ) (w : ChangeSet) (before after : Cells VersionChain) → MakesEach (with_commit n w) before after → AreBelow n before → AreBelow (n + 1) after
 committed_below n w before after made below c = subst (IsBelow (n + 1)) (sym (made c)) (commit_below n w c (chain_at before c) (below c))
-
--- ---- a commit that could not be added
-
-pub kept_rise : (n : ℕ) (before after : Cells VersionChain) → KeepsBelow n before after → AreBelow n before → AllRise before → AllRise after
-kept_rise n before after keeps below rise c = subst (λ (x : VersionChain). RisesFrom 0 x.versions) (sym (keeps c (below c))) (rise c)
-
-pub kept_below : (n : ℕ) (before after : Cells VersionChain) → KeepsBelow n before after → AreBelow n before → AreBelow n after
-kept_below n before after keeps below c = subst (IsBelow n) (sym (keeps c (below c))) (below c)
 
 -- ---- a vacuum
 

@@ -1,7 +1,6 @@
 -- What the loops over touches keep.
-use Rattle.std.proofs.Common.{◌≡◌, ◌∙◌, ℕ, ◌+◌, ◌-◌, ◌^◌, ◌≤◌, min, inl, inr, Bool, true, false, ◌||◌, cond, if◌then◌else◌, leb, List, [], ◌∷◌, ◌++◌, length, take, refl, ap, sym, arith, append_assoc, append-nil}
+use Rattle.std.proofs.Common.{◌≡◌, ◌∙◌, ℕ, ◌+◌, ◌-◌, ◌^◌, ◌≤◌, min, inl, inr, Bool, true, false, ◌||◌, cond, if◌then◌else◌, leb, List, [], ◌∷◌, ◌++◌, length, take, refl, ap, sym, arith, append-nil}
 use Rattle.std.proofs.lemmas.Bool.{le-leb}
-use Rattle.std.proofs.lemmas.List.{take_all}
 use Rattle.prog_tree.specs.declared.cell.Cell.{Cell}
 use Rattle.prog_tree.specs.Table.{Cells, is_same_cell, is_cell_among}
 use Rattle.prog_tree.proofs.CellSets.{same-turned}
@@ -16,25 +15,6 @@ use Rattle.version_store.proofs.TrimLaws.{trimmed_again}
 pub record Adds (number : ℕ) (cells rest : List Cell) (before now : List (ℕ × Cell)) : Type 0 where
   pub ends : now ++ numbered number rest ≡ before ++ numbered number cells
   pub first : take (length before) now ≡ before
-
-pub adds_first : (number : ℕ) (cells left : List Cell) (before : List (ℕ × Cell)) → left ≡ cells → Adds number cells left before before
-adds_first number cells left before is = record { ends = ap (λ ks. before ++ numbered number ks) is; first = take_all (length before) before (omega arith) }
-
--- what begins with a list begins with it after a push
-pub first_push : {A : Type 0} (before now : List A) (x : A) → take (length before) now ≡ before → take (length before) (now ++ x ∷ []) ≡ before
-first_push [] now x h = refl
-first_push (b ∷ before) [] x h = absurd (cc)
-first_push (b ∷ before) (y ∷ now) x h =
-    let head : y ≡ b = cc in
-    let tail : take (length before) now ≡ before = cc in
-    (λ i. head i ∷ first_push before now x tail i)
-
-pub adds_more : (number : ℕ) (cells left rest : List Cell) (k : Cell) (before now next : List (ℕ × Cell)) → left ≡ k ∷ rest → next ≡ now ++ (number, k) ∷ [] →
-    Adds number cells left before now → Adds number cells rest before next
-adds_more number cells left rest k before now next is pushed h = record {
-  ends = ap (λ ts. ts ++ numbered number rest) pushed ∙ append_assoc now ((number, k) ∷ []) (numbered number rest) ∙ ap (λ ks. now ++ numbered number ks) (sym is) ∙ h.ends;
-  first = ap (take (length before)) pushed ∙ first_push before now (number, k) h.first;
-}
 
 pub adds_all : (number : ℕ) (cells left : List Cell) (before now : List (ℕ × Cell)) → left ≡ [] → Adds number cells left before now → now ≡ before ++ numbered number cells
 adds_all number cells left before now is h = sym (append-nil now) ∙ ap (λ ks. now ++ numbered number ks) (sym is) ∙ h.ends

@@ -47,14 +47,6 @@ pub record AddsTouches (n : ℕ) (touches rest : Cells Touch) (before now : Cell
   pub apart : (c : Cell) → is_cell_among (cells_of touches) c ≡ false → (is_cell_among (cells_of rest) c ≡ false) × (chain_at now c ≡ chain_at before c)
   pub hold : EachHolds before → EachHolds now
 
-pub adds_begin : (n : ℕ) (touches left : Cells Touch) (before : Cells VersionChain) → left ≡ touches → AddsTouches n touches left before before
-adds_begin n touches left before is = record {
-  ends = λ c. ap (λ ts. with_touches n ts c (chain_at before c)) is;
-  below = λ c. refl;
-  apart = λ c none. (ap (λ (ts : Cells Touch). is_cell_among (cells_of ts) c) is ∙ none, refl);
-  hold = λ holds. holds;
-}
-
 pub one_more_touch :
     (n : ℕ) (touches left rest : Cells Touch) (k : Cell) (touch : Touch) (before now next : Cells VersionChain) → left ≡ (k, touch) ∷ rest → AddsTouches n touches left before now →
     MakesAt k (with_touch n touch) now next → (EachHolds now → EachHolds next) → AddsTouches n touches rest before next
@@ -108,12 +100,6 @@ cut_twice n chain i = record {
 pub record CutsTouches (n : ℕ) (touches rest : Cells Touch) (before now : Cells VersionChain) : Type 0 where
   pub ends : (c : Cell) → (if is_cell_among (cells_of rest) c then cut_from n (chain_at now c) else chain_at now c) ≡ (if is_cell_among (cells_of touches) c then cut_from n (chain_at before c) else chain_at before c)
   pub hold : EachHolds before → EachHolds now
-
-pub cuts_begin : (n : ℕ) (touches left : Cells Touch) (before : Cells VersionChain) → left ≡ touches → CutsTouches n touches left before before
-cuts_begin n touches left before is = record {
-  ends = λ c. ap (λ (ts : Cells Touch). if is_cell_among (cells_of ts) c then cut_from n (chain_at before c) else chain_at before c) is;
-  hold = λ holds. holds;
-}
 
 pub one_more_cut :
     (n : ℕ) (touches left rest : Cells Touch) (k : Cell) (touch : Touch) (before now next : Cells VersionChain) → left ≡ (k, touch) ∷ rest → CutsTouches n touches left before now →
