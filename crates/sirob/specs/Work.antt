@@ -15,8 +15,8 @@ abbrev pub ends_in : Way → List JobOutcome → ℕ
 ends_in way outcomes = length (filter (λ outcome. is_in way outcome.job_end) outcomes)
 
 -- a line for each way of ending, with how many jobs ended so
-abbrev pub counts_text : List JobOutcome → List ℕ
-counts_text outcomes =
+abbrev pub ways_text : List JobOutcome → List ℕ
+ways_text outcomes =
     codes "committed " ++ (decimal (ends_in Committed outcomes)
     ++ (codes "\naborted " ++ (decimal (ends_in Aborted outcomes)
     ++ (codes "\nclashed " ++ (decimal (ends_in Clashed outcomes)
@@ -25,4 +25,4 @@ counts_text outcomes =
 -- these lines, and one for each row that is left
 abbrev pub work_text : List JobOutcome → BookView → List ℕ
 work_text outcomes book =
-    counts_text outcomes ++ concat (end_lines (draft_tree book.set) book.opening (history_of book.rows))
+    ways_text outcomes ++ concat (end_lines (draft_tree book.set) book.opening (history_of book.rows))

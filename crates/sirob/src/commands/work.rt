@@ -7,7 +7,7 @@ ghost use Rattle.sirob.specs.InputFaults.{IsFaultOfPart};
 ghost use Rattle.sirob.specs.Inputs.{IsRobust};
 ghost use Rattle.sirob.specs.Output.{GivesWork};
 ghost use Rattle.sirob.specs.Stops.{IsPartDone, IsFaultOfJobs, WritesWithEnd};
-ghost use Rattle.sirob.specs.Work.{ends_in, counts_text, work_text};
+ghost use Rattle.sirob.specs.Work.{ends_in, ways_text, work_text};
 ghost use Rattle.sirob.specs.declared.command_line.Mode.TheVariants as mode;
 
 use crate::command_fault::CommandFault;
@@ -37,8 +37,8 @@ fn ends_in(way: Way, outcomes: &[JobOutcome]) -> usize
 }
 
 // How many jobs ended in each way.
-fn counts_text(alloc: Global, outcomes: &[JobOutcome]) -> Result<String, AllocError>
-    ensures { IfOk result (λ text. string_bytes text ≡ counts_text outcomes.now) }
+fn ways_text(alloc: Global, outcomes: &[JobOutcome]) -> Result<String, AllocError>
+    ensures { IfOk result (λ text. string_bytes text ≡ ways_text outcomes.now) }
 {
     let committed = ends_in(Way::Committed, outcomes);
     let aborted = ends_in(Way::Aborted, outcomes);
@@ -54,7 +54,7 @@ fn work_text(alloc: Global, outcomes: &[JobOutcome], book: &Book<'_>) -> Result<
     ensures { IfOk result (λ text. string_bytes text ≡ work_text outcomes.now book.now) }
 {
     let table = book.table_rows()?;
-    let mut text = counts_text(alloc, outcomes)?;
+    let mut text = ways_text(alloc, outcomes)?;
     push_rows(book.set().draft(), table.as_slice(), &mut text)?;
     Ok(text)
 }

@@ -38,7 +38,7 @@ fn wanted_parts(alloc: Global, mode: Mode) -> Result<String, AllocError> {
     }
 }
 
-fn kind_of(mode: Mode) -> PartKind {
+fn part_kind(mode: Mode) -> PartKind {
     match mode {
         Mode::Audit => PartKind::Records,
         Mode::Work { .. } => PartKind::Jobs,
@@ -90,7 +90,7 @@ fn set_words(
     match fault {
         CommandFault::Repair(fault) => repair_fault_words(alloc, input.text, set, fault),
         CommandFault::Part(PartFault::Line(fault)) => {
-            line_fault_words(alloc, kind_of(mode), set, input.part, fault)
+            line_fault_words(alloc, part_kind(mode), set, input.part, fault)
         }
         CommandFault::Audit(fault) => record_words(alloc, set, input.part, fault),
         CommandFault::Certificate(fault) => {
