@@ -1,8 +1,8 @@
 -- Runs that end instances of a book.
-use Rattle.std.proofs.Common.{◌≡◌, ℕ, ◌+◌, ◌≤◌, length, take, ap, sym, ◌∙◌, subst, arith}
+use Rattle.std.proofs.Common.{◌≡◌, ℕ, ◌+◌, ◌≤◌, List, [], ◌∷◌, length, take, ap, sym, ◌∙◌, subst, arith}
 use Rattle.std.specs.Prelude.{Option, Some, None}
 use Rattle.std.proofs.Math.Seq.{take-length}
-use Rattle.std.proofs.lemmas.List.{length-map}
+use Rattle.std.proofs.lemmas.List.{length-map, map-append}
 use Rattle.prog_tree.specs.declared.cell.Cell.{Cell}
 use Rattle.prog_tree.specs.declared.deed.Cause.{Cause}
 use Rattle.prog_tree.specs.declared.deed.End.{End}
@@ -13,14 +13,20 @@ use Rattle.prog_tree.specs.Tree.{program_tree, draft_tree}
 use Rattle.prog_run.specs.View.{RunView, IsTrueRun, result_of}
 use Rattle.version_store.specs.Clash.{IsClash}
 use Rattle.version_store.specs.declared.clash.Clash.{Clash}
-use Rattle.history_book.specs.History.{Instance, IsCalled}
+use Rattle.history_book.specs.History.{Instance, IsCalled, state_after}
 use Rattle.history_book.specs.Runs.{IsOwnRun, IsCommit, IsEndedRow, IsCommitted, IsClashed, IsAborted, row_in, committed_in, ended_in}
 use Rattle.history_book.specs.Ticket.{TicketView}
 use Rattle.history_book.specs.TrueBook.{IsTrueRow, IsTrueClash, IsTrueAbort}
 use Rattle.history_book.specs.View.{BookView, instance_of, row_of, history_of, commits_in, state_in, done_in}
 use Rattle.history_book.specs.declared.instances.row.Ending.TheVariants as ending
 use Rattle.history_book.specs.declared.instances.row.HistoryRow.{HistoryRow}
-use Rattle.history_book.proofs.HistoryLaws.{eval_of-found, length-commits_of}
+use Rattle.history_book.proofs.HistoryLaws.{eval_of-found, length-commits_of, state_after-push}
+
+-- the states before a commit stay
+pub state_in-committed : (v : BookView) (number : ℕ) (row : HistoryRow) (n : ℕ) → n ≤ length v.rows → state_in (committed_in v number row) n ≡ state_in v n
+state_in-committed v number row n before =
+    ap (λ (h : List Instance). state_after (draft_tree v.set) v.opening h n) (map-append instance_of v.rows (row ∷ []))
+    ∙ state_after-push (draft_tree v.set) v.opening (history_of v.rows) (instance_of row) n (omega (arith, before, length-map v.rows instance_of))
 
 -- what a run of an instance came to is what the instance does
 pub own_run : (v : BookView) (i : Instance) (run : RunView) (end : End) → IsOwnRun v i run → IsTrueRun run → run.end ≡ Some end → result_of end run ≡ done_in v i

@@ -12,17 +12,15 @@ use Rattle.prog_tree.specs.declared.deed.Deed.{Deed}
 use Rattle.prog_tree.specs.declared.deed.End.{End}
 use Rattle.prog_tree.specs.declared.deed.End.TheVariants.{Ready, Aborted}
 use Rattle.prog_tree.specs.Evaluation.{Evaluation}
-use Rattle.prog_tree.specs.Table.{TableState}
 use Rattle.prog_tree.specs.Tree.{draft_tree}
 use Rattle.prog_run.specs.Looks.{AreFound}
-use Rattle.history_book.specs.History.{Instance, evaluation, state_after}
+use Rattle.history_book.specs.History.{Instance, evaluation}
 use Rattle.history_book.specs.Runs.{ended_in, withdrawn_in, committed_in}
 use Rattle.history_book.specs.View as book
-use Rattle.history_book.specs.View.{BookView, instance_of, history_of, with_start, without, state_in, done_in}
+use Rattle.history_book.specs.View.{BookView, instance_of, history_of, with_start, without, done_in}
 use Rattle.history_book.specs.declared.instances.row.Ending.{Ending}
 use Rattle.history_book.specs.declared.instances.row.HistoryRow.{HistoryRow}
-use Rattle.history_book.proofs.HistoryLaws.{state_after-push}
-use Rattle.history_book.proofs.BookLaws.{history-push}
+use Rattle.history_book.proofs.CommitLaws.{state_in-committed}
 use Rattle.si_engine.specs.Machine.{Active, Machine, least_start, at_end, deed_or_end, stepped, with_begun, if_active, with_active, machine_step}
 use Rattle.si_engine.specs.View.{EngineView, instance_in, active_in, begun_of, machine_of, IsHeld, IsActive, IsEngine, StaysOver, IsAnswerTo, answer_without, MayLackMemory, Applies, IsAfterStep, numbered, takes_memory}
 use Rattle.si_engine.specs.declared.active.ActiveRun.{ActiveRun}
@@ -82,15 +80,6 @@ leaves_withdrawn v number = record {
   held = held_alike v _ _ _ _;
 }
 
--- the states that instances see are those of the longer history
-state-push : (v : BookView) (number : ℕ) (row : HistoryRow) (n : ℕ) → n ≤ length v.rows → state_in (committed_in v number row) n ≡ state_in v n
-state-push v number row n within =
-    let inside : n ≤ length (history_of v.rows) = omega (arith, length-map v.rows instance_of) in
-    ap (λ h. state_of h) (history-push v.rows row) ∙ state_after-push (draft_tree v.set) v.opening (history_of v.rows) (instance_of row) n inside
-  where
-    state_of : List Instance → TableState
-    state_of h = state_after (draft_tree v.set) v.opening h n
-
 pub leaves_committed : (v : BookView) (number : ℕ) (row : HistoryRow) → Leaves v (committed_in v number row) number
 leaves_committed v number row = record {
   begun = refl;
@@ -103,7 +92,7 @@ leaves_committed v number row = record {
         start = omega (arith, more, start);
         own = record {
           same = record { tables = h.own.same.tables; program = h.own.same.program; args = h.own.same.args };
-          found = subst (λ m. AreFound m b.run.value.looks) (sym (state-push v number row b.ticket.start start)) h.own.found;
+          found = subst (λ m. AreFound m b.run.value.looks) (sym (state_in-committed v number row b.ticket.start start)) h.own.found;
         };
         is_true = h.is_true;
         ready = h.ready;

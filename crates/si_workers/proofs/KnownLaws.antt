@@ -1,19 +1,16 @@
 -- The states of a book stay what they were.
-use Rattle.std.proofs.Common.{◌≡◌, ◌∙◌, ℕ, ◌≤◌, List, [], ◌∷◌, length, Result, Ok, Err, IfOk, IfErr, refl, ap, subst, sym, arith, length-append}
+use Rattle.std.proofs.Common.{◌≡◌, ◌∙◌, ℕ, List, [], ◌∷◌, Result, Ok, Err, IfOk, IfErr, refl, ap, subst, sym, arith, length-append}
 use Rattle.std.specs.Prelude.{OnOk, Option, Some, None, IsSome, slice_get}
-use Rattle.std.proofs.lemmas.List.{length-map, map-append}
 use Rattle.std.proofs.lemmas.List.Elements.{filter_passes}
 use Rattle.prog_tree.specs.declared.cell.Region.{Region}
 use Rattle.prog_tree.specs.Table.{TableState, is_in, rows_in}
-use Rattle.prog_tree.specs.Tree.{draft_tree}
 use Rattle.prog_run.specs.Looks.{AreFound, IsFoundLast, last_look}
 use Rattle.prog_run.specs.View.{RunView}
-use Rattle.history_book.proofs.HistoryLaws.{state_after-push}
-use Rattle.history_book.specs.History.{Instance, state_after}
+use Rattle.history_book.proofs.CommitLaws.{state_in-committed}
 use Rattle.history_book.specs.Refusals.{IsCommitFault, IsEndFault}
 use Rattle.history_book.specs.Runs.{IsAborted, IsCommitted, committed_in}
 use Rattle.history_book.specs.Ticket.{TicketView}
-use Rattle.history_book.specs.View.{BookView, history_of, instance_of, state_in}
+use Rattle.history_book.specs.View.{BookView}
 use Rattle.history_book.specs.declared.fault.CommitFault.{CommitFault}
 use Rattle.history_book.specs.declared.fault.CommitFault.TheVariants as commit
 use Rattle.history_book.specs.declared.fault.EndFault.{EndFault}
@@ -21,12 +18,6 @@ use Rattle.history_book.specs.declared.fault.EndFault.TheVariants as end
 use Rattle.history_book.specs.declared.instances.row.HistoryRow.{HistoryRow}
 use Rattle.si_workers.specs.HandedIn.{AreRowsOf}
 use Rattle.si_workers.specs.KnownStates.{AreStatesOf, IsFoundIn, IsKnown}
-
--- the states before a commit stay
-state_in-committed : (v : BookView) (number : ℕ) (row : HistoryRow) (n : ℕ) → n ≤ length v.rows → state_in (committed_in v number row) n ≡ state_in v n
-state_in-committed v number row n before =
-    ap (λ (h : List Instance). state_after (draft_tree v.set) v.opening h n) (map-append instance_of v.rows (row ∷ []))
-    ∙ state_after-push (draft_tree v.set) v.opening (history_of v.rows) (instance_of row) n (omega (arith, before, length-map v.rows instance_of))
 
 states-committed : (v : BookView) (number : ℕ) (row : HistoryRow) (states : List TableState) → AreStatesOf v states → AreStatesOf (committed_in v number row) states
 states-committed v number row states are n m at =
