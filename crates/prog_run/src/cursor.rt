@@ -324,19 +324,15 @@ impl<'a> Cursor<'a> {
         ensures err { OnErr result (cursor_tree self.new ≡ cursor_tree self.old) }
         ensures err_progress { OnErr result (progress.new ≡ progress.old) }
     {
-        match usage {
-            RegionUse::Count { name } => {
-                let step = count_rows(progress, region, name, rows)?;
-                self.go_on(step);
-                Ok(step)
+        let step = match usage {
+            RegionUse::Count { name } => count_rows(progress, region, name, rows)?,
+            RegionUse::Sum { name } => sum_rows(progress, region, name, rows)?,
+            RegionUse::List { listing, body } => {
+                return self.list(progress, region, listing, body, rows);
             }
-            RegionUse::Sum { name } => {
-                let step = sum_rows(progress, region, name, rows)?;
-                self.go_on(step);
-                Ok(step)
-            }
-            RegionUse::List { listing, body } => self.list(progress, region, listing, body, rows),
-        }
+        };
+        self.go_on(step);
+        Ok(step)
     }
 
     // The rows of an `each` are listed: the run stands before its turns, behind which it goes on

@@ -49,9 +49,7 @@ pub fn found_last<'l>(looks: &'l [Look], region: &Region) -> Option<&'l RowPiece
     ensures held { IfSome result (λ rows. (m : TableState) →
         AreFound m looks.now → rows.now ≡ rows_in region.now m) }
 {
-    let Some(last) = looks.last() else {
-        return None;
-    };
+    let last = looks.last()?;
     match last {
         Look::Range {
             region: looked,

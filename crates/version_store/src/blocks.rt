@@ -106,9 +106,7 @@ impl Blocks {
         ensures key { IsKeyOf self.now cell.now result }
         ensures has { IfSome result (HasAt self.now cell.now) }
     {
-        let Some((key, slot)) = self.slots.range(*cell..).next() else {
-            return None;
-        };
+        let (key, slot) = self.slots.range(*cell..).next()?;
         if slot.region.contains(cell) {
             Some(*key)
         } else {
@@ -124,12 +122,8 @@ impl Blocks {
         ensures others { (c : Cell) → AreEnded number c self.old → AreEnded number c self.new }
         ensures stays { (chains : Cells VersionChain) → StaysTrue chains self.old self.new }
     {
-        let Some(key) = self.key_of(cell) else {
-            return None;
-        };
-        let Some(slot) = self.slots.get_mut(&key) else {
-            return None;
-        };
+        let key = self.key_of(cell)?;
+        let slot = self.slots.get_mut(&key)?;
         let region = slot.region;
         slot.end_at(number);
         Some(region)

@@ -91,9 +91,7 @@ pub fn rows_behind<'r>(rows: RowWalk<'r>, cell: &Cell, found: Option<i64>) -> Op
     let Some(value) = found else {
         return Some(rows);
     };
-    let Some(((first, held), rest)) = rows.split_first() else {
-        return None;
-    };
+    let ((first, held), rest) = rows.split_first()?;
     if *held == value && cell.cmp(first).is_eq() {
         Some(rest)
     } else {

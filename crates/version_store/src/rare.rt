@@ -8,8 +8,8 @@ use crate::tail::Tail;
 use std::alloc::{AllocError, Global};
 use std::marker::Model;
 
-/// A list that takes two words where it holds nothing; one whose items went one by one keeps its
-/// block. Contracts see the list.
+/// A list that takes two words where it holds nothing; unless it is cleared, one whose items went
+/// keeps its block. Contracts see the list.
 #[derive(Debug, Drop)]
 pub struct Rare<T> {
     alloc: Global,

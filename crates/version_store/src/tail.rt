@@ -26,15 +26,17 @@ impl<T> Model for Tail<T> {
     ghost invariant = { λ t. t.gone ≤ length t.items.items };
 }
 
-// Drops the first items, and where there are any gives back the room that is not needed.
-fn drop_front<T: Drop>(items: &mut Vec<T>, count: usize)
-    requires { count ≤ length items.old.items }
-    ensures { items.new.items ≡ drop count items.old.items }
+// Drops the items that have gone, and where there are any gives back the room that is not needed.
+fn drop_gone<T: Drop>(items: &mut Vec<T>, gone: &mut usize)
+    requires { gone.old ≤ length items.old.items }
+    ensures items { items.new.items ≡ drop gone.old items.old.items }
+    ensures none { gone.new ≡ 0 }
 {
-    if count > 0 {
-        items.drain(..count);
+    if *gone > 0 {
+        items.drain(..*gone);
         items.shrink_to_fit();
     }
+    *gone = 0;
 }
 
 impl<T> Tail<T> {
@@ -69,9 +71,7 @@ impl<T: Drop> Tail<T> {
         ensures items { self.old ≡ self.new ++ option_to_list result }
         ensures none { IsNone result → self.new ≡ [] }
     {
-        let gone = self.gone;
-        drop_front(&mut self.items, gone);
-        self.gone = 0;
+        drop_gone(&mut self.items, &mut self.gone);
         self.items.pop()
     }
 
@@ -81,9 +81,7 @@ impl<T: Drop> Tail<T> {
         ensures filtered { IsFiltered (CalledAt F.FnMut) f self.old self.new }
         ensures bound { length self.new ≤ length self.old }
     {
-        let gone = self.gone;
-        drop_front(&mut self.items, gone);
-        self.gone = 0;
+        drop_gone(&mut self.items, &mut self.gone);
         self.items.retain(f);
     }
 
@@ -92,13 +90,9 @@ impl<T: Drop> Tail<T> {
         requires { count ≤ length self.old }
         ensures { self.new ≡ drop count self.old }
     {
-        let len = self.items.len();
-        let gone = self.gone + count;
-        if gone <= len / 2 {
-            self.gone = gone;
-            return;
+        self.gone += count;
+        if self.gone > self.items.len() / 2 {
+            drop_gone(&mut self.items, &mut self.gone);
         }
-        drop_front(&mut self.items, gone);
-        self.gone = 0;
     }
 }
