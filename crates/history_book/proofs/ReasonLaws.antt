@@ -101,8 +101,8 @@ among_at (c ∷ cs) (suc n) other inside =
 
 missed_puts : (i j : ℕ) (a b : TraceView) (c : Cell) (s : Sight) → a.start < j → Changed b c → Contains a.looked s → takes_in s c ≡ true →
     PutsBefore i j a b (missed_by s c)
-missed_puts i j a b c (sight.One own) early changed has takes =
-    (early, subst (λ x. Contains a.looked (sight.One x)) (cell_is own c takes) has, changed)
+missed_puts i j a b c (sight.One looked) early changed has takes =
+    (early, subst (λ x. Contains a.looked (sight.One x)) (cell_is looked c takes) has, changed)
 missed_puts i j a b c (sight.Range region own) early changed has takes = (early, (own, has, takes), changed)
 
 -- ---- the reason that is told is one

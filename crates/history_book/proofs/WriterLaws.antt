@@ -1,6 +1,8 @@
 -- Laws of the writers of cells.
-use Rattle.std.proofs.Common.{◌≡◌, ◌∙◌, ℕ, zero, suc, ◌<◌, ◌≤◌, leb, nat_lt, Bool, true, false, cond, ◌||◌, if◌then◌else◌, List, [], ◌∷◌, ◌++◌, length, get_or, refl, ap, subst, arith}
-use Rattle.std.specs.Prelude.{nat_le, Option, Some, None, IfSome, All, unwrap_or}
+use Rattle.std.proofs.Common.{◌≡◌, ◌∙◌, ℕ, zero, suc, ◌-◌, ◌≤◌, leb, nat_lt, Bool, true, false, cond, ◌||◌, if◌then◌else◌, List, [], ◌∷◌, ◌++◌, length, take, get_or, refl, ap, sym, subst, arith, tests, Bor}
+use Rattle.std.proofs.lemmas.List.{length-take-le, get_or-take}
+use Rattle.std.proofs.lemmas.Option.{slice_get-get_or, slice_get_past, slice_get_read}
+use Rattle.std.specs.Prelude.{nat_le, Option, Some, None, IfSome, All, unwrap_or, slice_get, is_some, option_copied}
 use Rattle.std.specs.List.Sorted.{IsStrictlySortedBy}
 use Rattle.std.specs.Option.{option_or}
 use Rattle.std.proofs.lemmas.List.Elements.{All-head, All-tail}
@@ -58,14 +60,14 @@ added_entry m n cell number new is written c =
 
 -- ---- the bisection
 
-pub seen_none : (n : ℕ) (ms : List ℕ) → IsCutBy n ms 0 → None ≡ last_seen n ms
+seen_none : (n : ℕ) (ms : List ℕ) → IsCutBy n ms 0 → None ≡ last_seen n ms
 seen_none n [] cut = refl
 seen_none n (m ∷ ms) cut =
     let above : leb m n ≡ false = cut.1 0 0 (omega arith) (omega arith) in
     let rest = seen_none n ms (cut_none (λ (k : ℕ). k) n m ms cut) in
     rw (← rest, above) refl
 
-pub seen_last : (n : ℕ) (ms : List ℕ) (count : ℕ) → IsCutBy n ms (suc count) → suc count ≤ length ms → Some (get_or ms count 0) ≡ last_seen n ms
+seen_last : (n : ℕ) (ms : List ℕ) (count : ℕ) → IsCutBy n ms (suc count) → suc count ≤ length ms → Some (get_or ms count 0) ≡ last_seen n ms
 seen_last n [] count cut bound = absurd (omega arith)
 seen_last n (m ∷ ms) zero cut bound =
     let within : leb m n ≡ true = cut.0 0 0 (omega arith) (omega arith) in
@@ -75,21 +77,31 @@ seen_last n (m ∷ ms) (suc count) cut bound =
     let rest = seen_last n ms count (cut_rest (λ (k : ℕ). k) n m ms (suc count) cut) (omega arith) in
     rw (← rest) refl
 
-pub missed_none : (n : ℕ) (ms : List ℕ) → IsCutBy n ms (length ms) → None ≡ first_missed n ms
-missed_none n [] cut = refl
-missed_none n (m ∷ ms) cut =
-    let within : leb m n ≡ true = cut.0 0 0 (omega arith) (omega arith) in
-    let not = not_above n m within in
-    rw not (missed_none n ms (cut_rest (λ (k : ℕ). k) n m ms (length ms) cut))
+-- the last of the first `count`
+pub seen_at : (n : ℕ) (ms : List ℕ) (count : ℕ) → IsCutBy n ms count → count ≤ length ms → slice_get (take count ms) (length (take count ms) - 1) ≡ last_seen n ms
+seen_at n ms zero cut bound = seen_none n ms cut
+seen_at n ms (suc count) cut bound =
+    let size : length (take (suc count) ms) ≡ suc count = length-take-le (suc count) ms bound in
+    let last : length (take (suc count) ms) - 1 ≡ count = omega (arith, size) in
+    ap (slice_get (take (suc count) ms)) last
+    ∙ slice_get-get_or (take (suc count) ms) count 0 (omega (arith, size))
+    ∙ ap (λ (k : ℕ). Some k) (get_or-take (suc count) ms count 0 (omega arith))
+    ∙ seen_last n ms count cut bound
 
-pub missed_first : (n : ℕ) (ms : List ℕ) (count : ℕ) → IsCutBy n ms count → count < length ms → Some (get_or ms count 0) ≡ first_missed n ms
-missed_first n [] count cut bound = absurd (omega arith)
-missed_first n (m ∷ ms) zero cut bound =
+missed_at : (n : ℕ) (ms : List ℕ) (count : ℕ) → IsCutBy n ms count → slice_get ms count ≡ first_missed n ms
+missed_at n [] count cut = refl
+missed_at n (m ∷ ms) zero cut =
     let above : leb m n ≡ false = cut.1 0 0 (omega arith) (omega arith) in
     rw (is_above n m above) refl
-missed_first n (m ∷ ms) (suc count) cut bound =
+missed_at n (m ∷ ms) (suc count) cut =
     let within : leb m n ≡ true = cut.0 0 0 (omega arith) (omega arith) in
-    rw (not_above n m within) (missed_first n ms count (cut_rest (λ (k : ℕ). k) n m ms count cut) (omega arith))
+    rw (not_above n m within) (missed_at n ms count (cut_rest (λ (k : ℕ). k) n m ms count cut))
+
+pub missed_read : (n : ℕ) (ms : List ℕ) (count : ℕ) (found : Option (Bor ℕ))
+    → is_some found ≡ nat_lt count (length ms) → IfSome found (λ m. m.now ≡ get_or ms count m.now) → IsCutBy n ms count → option_copied found ≡ first_missed n ms
+missed_read n ms count None is_there read cut = sym (slice_get_past ms count (search (tests, arith))) ∙ missed_at n ms count cut
+missed_read n ms count (Some m) is_there read cut =
+    sym (slice_get_read ms (length ms) count m.now refl (search (tests, arith)) read) ∙ missed_at n ms count cut
 
 -- ---- what holds of all numbers holds of these
 

@@ -54,7 +54,7 @@ by_change i j first second = option_map (change_reason i j second) (find (change
 
 -- the reason that is told for a look that takes in a cell whose change it missed
 abbrev pub missed_by : Sight → Cell → OrderReason
-missed_by (sight.One own) c = reason.Missed c
+missed_by (sight.One looked) c = reason.Missed c
 missed_by (sight.Range region own) c = reason.MissedIn region c
 
 -- the reason for the first look that takes in a cell

@@ -127,10 +127,7 @@ impl<'a> Book<'a> {
         if !same_numbers(row.replies.as_slice(), run.replies()) {
             return Some(RowFault::WrongReplies);
         }
-        match self.clash(row.start, run.changes()) {
-            Some(clash) => Some(RowFault::Clashed(clash)),
-            None => None,
-        }
+        self.clash(row.start, run.changes()).map(RowFault::Clashed)
     }
 
     // Takes a row up as the next commit.

@@ -37,7 +37,7 @@ impl Sight {
         ensures { result ≡ takes_in self.now cell.now }
     {
         match self {
-            Sight::One(own) => own.cmp(cell).is_eq(),
+            Sight::One(looked) => looked.cmp(cell).is_eq(),
             Sight::Range { region, own } => region_takes_in(region.get(), own, cell),
         }
     }

@@ -105,10 +105,7 @@ pub(crate) fn last_seen(numbers: &[usize], count: usize) -> Option<usize>
     ensures { (start : ℕ) → IsCutBy start numbers.now count
         → result ≡ last_seen start numbers.now }
 {
-    if count == 0 {
-        return None;
-    }
-    Some(numbers[count - 1])
+    numbers[..count].last().copied()
 }
 
 // The first of some numbers that is above `start`, where so many are not.
@@ -117,8 +114,5 @@ pub(crate) fn first_missed(numbers: &[usize], count: usize) -> Option<usize>
     ensures { (start : ℕ) → IsCutBy start numbers.now count
         → result ≡ first_missed start numbers.now }
 {
-    if count == numbers.len() {
-        return None;
-    }
-    Some(numbers[count])
+    numbers.get(count).copied()
 }
