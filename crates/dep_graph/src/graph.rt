@@ -41,7 +41,7 @@ impl<'a> Model for Graph<'a> {
 }
 
 /// How many nodes are joined to the node.
-fn column_count(matrix: &Square, to: usize) -> usize
+fn reacher_count(matrix: &Square, to: usize) -> usize
     requires { to < matrix.now.size }
     ensures count { IsCountOf (λ from. entry matrix.now from to ≡ true) matrix.now.size result }
     ensures within { result ≤ matrix.now.size }
@@ -116,7 +116,7 @@ impl<'a> Graph<'a> {
         requires { x < length self.now }
         ensures { IsCountOf (λ u. Leads (StaticEdge self.now) u x) (length self.now) result }
     {
-        column_count(&self.reach, x)
+        reacher_count(&self.reach, x)
     }
 
     /// The least dangerous structure, if there is one.

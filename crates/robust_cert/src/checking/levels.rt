@@ -32,10 +32,12 @@ fn first_fall(edges: &Square, levels: &[u32], x: usize) -> Option<usize>
     ensures found { IfSome result (λ y. FallsFirst edges.now levels.now x y) }
     ensures none { IfNone result ((y : ℕ) → ¬ FallsIn edges.now levels.now x y) }
 {
-    for y in 0..edges.size() {
-        if edges.get(x, y) && levels[y] < levels[x] {
+    let mut start = 0;
+    while let Some(y) = edges.next(x, start) {
+        if levels[y] < levels[x] {
             return Some(y);
         }
+        start = y + 1;
     }
     None
 }
@@ -64,10 +66,12 @@ fn first_stay(vulnerable: &Square, levels: &[u32], x: usize, y: usize) -> Option
     ensures none { IfNone result ((z : ℕ) → ¬ StaysIn vulnerable.now levels.now x y z) }
 {
     if vulnerable.get(x, y) {
-        for z in 0..vulnerable.size() {
-            if vulnerable.get(y, z) && levels[z] <= levels[x] {
+        let mut start = 0;
+        while let Some(z) = vulnerable.next(y, start) {
+            if levels[z] <= levels[x] {
                 return Some(z);
             }
+            start = z + 1;
         }
     }
     None
@@ -81,10 +85,12 @@ fn lowest_behind(vulnerable: &Square, levels: &[u32], y: usize) -> Option<u32>
     ensures none { IfNone result ((z : ℕ) → ¬ Joins vulnerable.now y z) }
 {
     let mut lowest: Option<u32> = None;
-    for z in 0..vulnerable.size() {
-        if vulnerable.get(y, z) && lowest.is_none_or(|level| levels[z] < level) {
+    let mut start = 0;
+    while let Some(z) = vulnerable.next(y, start) {
+        if lowest.is_none_or(|level| levels[z] < level) {
             lowest = Some(levels[z]);
         }
+        start = z + 1;
     }
     lowest
 }

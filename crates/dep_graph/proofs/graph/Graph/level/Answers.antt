@@ -10,4 +10,4 @@ returns c =
     let g = c.self.inside in
     let x = c.args.x in
     let inside = subst (λ (paths : List Path). x < length paths) (sym c.self.view_is) c.requires in
-    subst (λ (paths : List Path). IsCountOf (λ u. Leads (StaticEdge paths) u x) (length paths) c.column_count.result) c.self.view_is (level-right g.paths.now g.edges g.vulnerable g.reach c.self.invariant x c.column_count.result inside c.column_count.ensures.count)
+    subst (λ (paths : List Path). IsCountOf (λ u. Leads (StaticEdge paths) u x) (length paths) c.reacher_count.result) c.self.view_is (level-right g.paths.now g.edges g.vulnerable g.reach c.self.invariant x c.reacher_count.result inside c.reacher_count.ensures.count)

@@ -1,4 +1,4 @@
-use Rattle.std.proofs.Common.{◌≡◌, ℕ, ◌<◌, ◌≤◌, List}
+use Rattle.std.proofs.Common.{◌≡◌, ℕ, ◌<◌, ◌≤◌, ◌-◌, List}
 use Rattle.std.specs.Prelude.{IfSome, IfNone, slice_index_or}
 use Rattle.order_facts.specs.Square.{Grid, Joins}
 use Rattle.robust_cert.proofs.checking.levels.lowest_behind.Given as goal
@@ -10,5 +10,8 @@ pub record IsLowestBefore (vulnerable : Grid) (levels : List ℕ) (y end lowest 
 
 abbrev pub invariant-loop-z : goal.invariant-loop-z
 invariant-loop-z l =
-    IfSome l.lowest (λ lowest. IsLowestBefore l.vulnerable l.levels l.y l.z-counter lowest)
-    × IfNone l.lowest ((z : ℕ) → z < l.z-counter → ¬ Joins l.vulnerable l.y z)
+    IfSome l.lowest (λ lowest. IsLowestBefore l.vulnerable l.levels l.y l.start lowest)
+    × IfNone l.lowest ((z : ℕ) → z < l.start → ¬ Joins l.vulnerable l.y z)
+
+abbrev pub decreases-loop-z : goal.decreases-loop-z
+decreases-loop-z l = l.vulnerable.size - l.start

@@ -3,8 +3,8 @@ use Rattle.std.proofs.lemmas.Bool.{false≢true}
 use Rattle.dep_graph.specs.Counting.{IsCountOf, none}
 use Rattle.order_facts.specs.Square.{entry}
 use Rattle.dep_graph.proofs.Counts.{IsCountOf-counted, IsCountOf-passed}
-use Rattle.dep_graph.proofs.graph.column_count.Goals as goal
-use Rattle.dep_graph.proofs.graph.column_count.Goals.{then-get, else-get}
+use Rattle.dep_graph.proofs.graph.reacher_count.Goals as goal
+use Rattle.dep_graph.proofs.graph.reacher_count.Goals.{then-get, else-get}
 
 pub loop-from-init : goal.loop-from-init
 loop-from-init c = record { counted = none; within = omega arith }
