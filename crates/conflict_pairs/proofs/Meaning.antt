@@ -1,6 +1,7 @@
 -- What the facts of a question say, in the words of meeting and covering.
-use Rattle.std.proofs.Common.{◌≡◌, ◌↔◌, ℕ, Bool, true, List, refl, sym, subst, ◌∙◌}
-use Rattle.std.specs.Prelude.{All, Some, slice_get, get_or}
+use Rattle.std.proofs.Common.{◌≡◌, ◌↔◌, ℕ, Bool, true, false, not, Option, Some, None, List, refl, sym, subst, ◌∙◌}
+use Rattle.std.specs.Prelude.{All, IfSome, IfNone, is_some, slice_get, get_or}
+use Rattle.std.proofs.lemmas.Bool.{false≢true}
 use Rattle.std.proofs.lemmas.Option.{get_or_from_slice_get, same_Some}
 use Rattle.order_facts.specs.declared.steps.Node.{Node}
 use Rattle.order_facts.specs.declared.steps.Fact.{Fact}
@@ -161,13 +162,19 @@ module _ (xs ys : List Access) (mine theirs : Access) (fs : List Fact) (is : fs 
   pub open-met : IsLeftOpen xs ys mine theirs → facts.IsConsistent fs
   open-met h = subst (λ (gs : List Fact). facts.IsConsistent gs) (sym is) h.0
 
-  pub open-uncovered : facts.IsConsistent fs → IsNoCover fs mine.kind theirs.kind xs ys → IsLeftOpen xs ys mine theirs
+  open-uncovered : facts.IsConsistent fs → IsNoCover fs mine.kind theirs.kind xs ys → IsLeftOpen xs ys mine theirs
   open-uncovered k none = (subst (λ (gs : List Fact). facts.IsConsistent gs) is k, subst (λ (gs : List Fact). IsNoCover gs mine.kind theirs.kind xs ys) is none)
 
-  pub covered-not_open : (m t : ℕ) → IsCoverFound fs mine.kind theirs.kind xs ys m t → IsLeftOpen xs ys mine theirs → ⊥
+  covered-not_open : (m t : ℕ) → IsCoverFound fs mine.kind theirs.kind xs ys m t → IsLeftOpen xs ys mine theirs → ⊥
   covered-not_open m t found h =
       let own = subst (λ (gs : List Fact). IsCoverFound gs mine.kind theirs.kind xs ys m t) is found in
       h.1 h.0 own.asks m t own.first.covers
+
+  pub open-where_none : facts.IsConsistent fs → (found : Option (ℕ × ℕ)) (told : Bool) → IfSome found (λ c. IsCoverFound fs mine.kind theirs.kind xs ys c.0 c.1) → IfNone found (IsNoCover fs mine.kind theirs.kind xs ys) → is_some found ≡ not told → (told ≡ true) ↔ IsLeftOpen xs ys mine theirs
+  open-where_none k (Some c) true some none is_found = absurd (false≢true (sym is_found))
+  open-where_none k (Some c) false some none is_found = (λ t. absurd (false≢true t), λ h. absurd (covered-not_open c.0 c.1 some h))
+  open-where_none k None true some none is_found = (λ _. open-uncovered k none, λ _. refl)
+  open-where_none k None false some none is_found = absurd (false≢true is_found)
 
 -- ---- where nothing covers
 

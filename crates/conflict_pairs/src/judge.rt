@@ -150,10 +150,7 @@ fn is_left_open_by_closed(
     if !closed.consistent() {
         return Ok(false);
     }
-    match cover(&closed, mine.kind, theirs.kind, xs, ys) {
-        Some(_) => Ok(false),
-        None => Ok(true),
-    }
+    Ok(cover(&closed, mine.kind, theirs.kind, xs, ys).is_none())
 }
 
 /// Whether the facts of two accesses can be met, and nothing in their lists covers, at once where

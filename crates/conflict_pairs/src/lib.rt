@@ -35,5 +35,6 @@ pub use limits::EQUAL_PARTS;
 pub use listing::{Listed, pairs};
 pub use parallel::pairs_par;
 pub use prog_paths::Question;
+pub use sharing::access_at;
 pub use table::{PairTable, TablePart};
 pub use verdicts::Verdict;

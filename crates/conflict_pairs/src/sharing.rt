@@ -50,8 +50,8 @@ fn is_same(one: &Verdict, other: &Verdict) -> bool
     }
 }
 
-/// The access of a number of a node.
-fn access_at(paths: &[Path], node: usize, number: usize) -> &Access
+/// The access of a number on the path of a node.
+pub fn access_at(paths: &[Path], node: usize, number: usize) -> &Access
     requires { HasAccess paths.now node number }
     ensures { IsAccessOf paths.now node number result.now }
 {

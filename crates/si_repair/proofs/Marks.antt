@@ -14,13 +14,13 @@ use Rattle.repair_laws.specs.declared.plan.Pair.{Pair}
 use Rattle.repair_laws.specs.Keys.{ExposedOf}
 use Rattle.repair_laws.specs.Promoted.{IsExposedAt, MarksExposed}
 use Rattle.si_repair.specs.Exposed.{AreExposed}
-use Rattle.si_repair.specs.Marks.{place_in, access_at, place_of, reads_at}
+use Rattle.si_repair.specs.Marks.{place_in, access_on, place_of, reads_at}
 
 -- ---- the statement of a question
 
 -- an access that is there has its statement's number
 pub place-is : (nodes : List Path) (q : Question) (access : Access) → IsAccessOf nodes q.x q.a access → place_of nodes q ≡ access.place
-place-is nodes q access h = ap (λ o. place_in (access_at o q.a)) h.1 ∙ ap place_in h.2
+place-is nodes q access h = ap (λ o. place_in (access_on o q.a)) h.1 ∙ ap place_in h.2
 
 -- the access of an exposed question is there
 exposed-access : (nodes : List Path) (pair : Pair) (q : Question) (e : ExposedOf nodes pair) → e.question.question ≡ numbers_of q → IsAccessOf nodes q.x q.a e.question.mine

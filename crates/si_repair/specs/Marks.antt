@@ -17,9 +17,9 @@ is_marked marks program number = list_any (is_at program number) marks
 
 -- ---- reads
 
-abbrev pub access_at : Option Path → ℕ → Option Access
-access_at None a = None
-access_at (Some path) a = slice_get path.accesses a
+abbrev pub access_on : Option Path → ℕ → Option Access
+access_on None a = None
+access_on (Some path) a = slice_get path.accesses a
 
 abbrev pub place_in : Option Access → ℕ
 place_in None = 0
@@ -27,7 +27,7 @@ place_in (Some access) = access.place
 
 -- the number of the statement whose access asks a question
 abbrev pub place_of : List Path → Question → ℕ
-place_of nodes q = place_in (access_at (slice_get nodes q.x) q.a)
+place_of nodes q = place_in (access_on (slice_get nodes q.x) q.a)
 
 -- a question of a pair is asked by the statement of this number in this program
 abbrev pub reads_at : List Path → Pair → (program number : ℕ) → Question → Bool

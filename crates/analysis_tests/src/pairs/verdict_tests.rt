@@ -7,12 +7,12 @@ use crate::pairs::sets::{
 };
 use crate::told::is_told;
 use conflict_pairs::{
-    Chain, ClassTable, PairFault, PairTable, TablePart, Verdict, changes_single_cells,
+    Chain, ClassTable, PairFault, PairTable, TablePart, Verdict, access_at, changes_single_cells,
     is_exposed_question, is_question, verdict,
 };
 use example_sets::{MOVE, SMALL_BANK, TRANSFER};
 use order_facts::Node;
-use prog_paths::Path;
+use prog_paths::{Kind, Path};
 use std::alloc::{AllocError, Global};
 use std::process::Abort;
 use std::test::Fail;
@@ -209,6 +209,26 @@ fn transfers_are_covered(rt: HostRuntime) -> Result<(), Fail> {
     drop(paths);
     is_told(&rt, shown.as_str(), TRANSFERS);
     is_told(&rt, shown_by_threads.as_str(), TRANSFERS);
+    Ok(())
+}
+
+/// The kind of the access at a place, if one is there.
+fn kind_at(paths: &[Path], place: Place) -> Option<Kind> {
+    let (node, number) = place;
+    let path = paths.get(node)?;
+    path.accesses.as_slice().get(number)?;
+    Some(access_at(paths, node, number).kind)
+}
+
+/// A transfer gets a row, puts it, and gets and puts another.
+#[test]
+fn an_access_is_found_by_its_place(rt: HostRuntime) -> Result<(), Fail> {
+    let paths = paths_of(rt.alloc(), TRANSFER)?;
+    let get = kind_at(&paths, (0, 2));
+    let put = kind_at(&paths, (0, 3));
+    drop(paths);
+    assert!(rt; get == Some(Kind::Reads));
+    assert!(rt; put == Some(Kind::Writes));
     Ok(())
 }
 

@@ -2,26 +2,15 @@
 ghost use Rattle.std.specs.Prelude.{◌↔◌, [], ◌∷◌, All, IfOk, IsTrue};
 ghost use Rattle.prog_paths.specs.Questions.{ChangesSingleCells, numbers_of, question_between};
 ghost use Rattle.prog_paths.specs.Places.{IsAt};
-ghost use Rattle.prog_paths.specs.StaticGraph.{IsAccessOf};
 ghost use Rattle.conflict_pairs.specs.Verdicts.{TellsExposed};
 ghost use Rattle.si_repair.specs.Exposed.{AreExposed, IsFirstExposed, ArePlacesOfPair, MayMiss};
 ghost use Rattle.si_repair.specs.Exposed.{IsExposedTo, AreExposedAmong};
-ghost use Rattle.conflict_pairs.specs.Alike.{HasAccess};
 
 use conflict_pairs::is_exposed_question;
-use prog_check::{Access, Path};
+use prog_check::Path;
 use prog_paths::{Placed, Question, asks_read_write, program_places, question_between};
 use repair_laws::Pair;
 use std::alloc::{AllocError, Global};
-
-/// The access of a number on the path of a node.
-pub fn access_at(paths: &[Path], node: usize, number: usize) -> Access
-    requires { HasAccess paths.now node number }
-    ensures { IsAccessOf paths.now node number result }
-{
-    let accesses = paths[node].accesses.as_slice();
-    accesses[number]
-}
 
 /// The accesses on the paths of a pair's two programs. Those of the first may miss what those of
 /// the second change.

@@ -6,7 +6,8 @@ ghost use Rattle.repair_laws.specs.Keys.{IsKeyOf};
 ghost use Rattle.si_repair.specs.Key.{IsMissed, AreFactsOf, PutEqual, AreLeft, AreForced};
 ghost use Rattle.si_repair.specs.Key.{params_with, all_pairs};
 
-use crate::repairs::exposed::{access_at, exposed_to, places_of_pair};
+use crate::repairs::exposed::{exposed_to, places_of_pair};
+use conflict_pairs::access_at;
 use order_facts::{Closed, Node};
 use prog_check::Path;
 use prog_paths::{Question, closed_facts};
@@ -20,7 +21,7 @@ fn facts_of(alloc: Global, paths: &[Path], question: &Question) -> Result<Closed
 {
     let mine = access_at(paths, question.x, question.a);
     let theirs = access_at(paths, question.y, question.b);
-    closed_facts(alloc, &mine, &theirs)
+    closed_facts(alloc, mine, theirs)
 }
 
 /// Whether the facts put two parameters at most each other.

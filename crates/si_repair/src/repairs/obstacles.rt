@@ -8,8 +8,9 @@ ghost use Rattle.si_repair.specs.Exposed.{HasBoth, AreExposed};
 ghost use Rattle.si_repair.specs.Obstacles.{IsObstacle, IsRangeIn, Hinders};
 ghost use Rattle.si_repair.specs.Obstacles.{HasHindered, IsFirstHindered, IsFirstHinderedOf};
 
-use crate::repairs::exposed::{access_at, exposed_questions};
+use crate::repairs::exposed::exposed_questions;
 use crate::repairs::ranges::{is_range, ranges_of};
+use conflict_pairs::access_at;
 use prog_check::{Access, Column, Path, Term};
 use prog_paths::Question;
 use prog_tree::Draft;
@@ -86,7 +87,7 @@ fn first_hindered(
     for question in questions {
         let read = access_at(paths, question.x, question.a);
         let other = access_at(paths, question.y, question.b);
-        if hinders(obstacle, ranges, &read, &other) {
+        if hinders(obstacle, ranges, read, other) {
             return Some(*question);
         }
     }

@@ -15,12 +15,12 @@ access_at-other-requires c = (c.requires c.loop-question.question-index _ (omega
 
 pub returns-then-hinders : goal.returns-then-hinders
 returns-then-hinders c =
-    hindered-found c.args.paths.now (IsRangeIn c.args.ranges.now) c.args.obstacle c.args.questions.now c.loop-question.question-index _ (omega arith) c.access_at-read.result c.access_at-other.result c.access_at-read.ensures c.access_at-other.ensures
+    hindered-found c.args.paths.now (IsRangeIn c.args.ranges.now) c.args.obstacle c.args.questions.now c.loop-question.question-index _ (omega arith) c.access_at-read.result.now c.access_at-other.result.now c.access_at-read.ensures c.access_at-other.ensures
     c.loop-question.invariant (c.hinders.ensures.0 c.if-hinders.true)
 
 pub loop-question-preserved : goal.loop-question-preserved
 loop-question-preserved c =
-    hindered-more c.args.paths.now (IsRangeIn c.args.ranges.now) c.args.obstacle c.args.questions.now c.loop-question.question-index _ (omega arith) c.access_at-read.result c.access_at-other.result c.access_at-read.ensures c.access_at-other.ensures
+    hindered-more c.args.paths.now (IsRangeIn c.args.ranges.now) c.args.obstacle c.args.questions.now c.loop-question.question-index _ (omega arith) c.access_at-read.result.now c.access_at-other.result.now c.access_at-read.ensures c.access_at-other.ensures
     c.loop-question.invariant (λ h. false≢true (sym c.if-hinders.false ∙ c.hinders.ensures.1 h))
 
 pub returns : goal.returns
