@@ -1,4 +1,6 @@
 //! Why work was refused, or did not come to what it has to.
+ghost use Rattle.std.specs.Prelude.{◌≡◌};
+ghost use Rattle.si_workers.specs.Texts.{worker_fault_of};
 
 use history_book::{BeginFault, Book};
 use job_list::JobOutcome;
@@ -64,14 +66,53 @@ impl fmt::Display for WorkFault<'_> {
     ghost output = { λ fault. Some (work_fault_text fault) };
 
     fn fmt<W: fmt::Write>(&self, f: &mut fmt::Formatter<W>) -> fmt::Result {
-        match self {
-            WorkFault::Workers => f.write_str("W1"),
-            WorkFault::TooManyJobs => f.write_str("W5"),
-            WorkFault::NoThread { .. } => f.write_str("W2"),
-            WorkFault::Broken { job, .. } => write!(f, "W3 {job}"),
-            WorkFault::Memory { .. } => f.write_str("memory"),
-        }
+        write!(f, "{}", WorkerFault::of(self))
     }
 }
 
 impl Error for WorkFault<'_> {}
+
+/// What is told of a fault of workers: all but the outcomes and the book.
+#[derive(Clone, Copy, Debug, PartialEq, Eq)]
+pub enum WorkerFault {
+    /// There are no workers, or too many.
+    Workers,
+    TooManyJobs,
+    /// Only so many threads could be started.
+    NoThread { started: usize },
+    /// The book does not hold what was told of this job.
+    Broken { job: usize },
+    Memory,
+}
+
+impl WorkerFault {
+    /// What is told of this fault.
+    pub fn of(fault: &WorkFault<'_>) -> Self
+        ensures { result ≡ worker_fault_of fault.now }
+    {
+        match fault {
+            WorkFault::Workers => WorkerFault::Workers,
+            WorkFault::TooManyJobs => WorkerFault::TooManyJobs,
+            WorkFault::NoThread { started, .. } => WorkerFault::NoThread { started: *started },
+            WorkFault::Broken { job, .. } => WorkerFault::Broken { job: *job },
+            WorkFault::Memory { .. } => WorkerFault::Memory,
+        }
+    }
+}
+
+impl fmt::Display for WorkerFault {
+    ghost use Rattle.std.specs.Prelude.{Some};
+    ghost use Rattle.si_workers.specs.Texts.{worker_fault_text};
+
+    ghost output = { λ fault. Some (worker_fault_text fault) };
+
+    fn fmt<W: fmt::Write>(&self, f: &mut fmt::Formatter<W>) -> fmt::Result {
+        match self {
+            WorkerFault::Workers => f.write_str("W1"),
+            WorkerFault::TooManyJobs => f.write_str("W5"),
+            WorkerFault::NoThread { .. } => f.write_str("W2"),
+            WorkerFault::Broken { job } => write!(f, "W3 {job}"),
+            WorkerFault::Memory => f.write_str("memory"),
+        }
+    }
+}

@@ -21,7 +21,7 @@ mod threads;
 mod told;
 mod worker;
 
-pub use fault::{BeginAfterFault, WorkFault};
+pub use fault::{BeginAfterFault, WorkFault, WorkerFault};
 pub use gate::{Gate, Moment, NoGate};
 pub use job_list::{Job, JobEnd, JobList, JobOutcome, Way, read_jobs};
 pub use limits::{MAX_JOBS, MAX_WORKERS};

@@ -18,8 +18,9 @@ use Rattle.si_engine.specs.declared.input.part_fault.PartFault.TheVariants as pa
 use Rattle.si_engine.specs.Texts.{input_fault_text, part_fault_text}
 use Rattle.si_engine.specs.declared.input.line_fault.LineFault.TheVariants as line
 use Rattle.si_engine.specs.declared.input.source.InputFault.TheVariants as i
-use Rattle.sirob.specs.declared.worker_fault.WorkerFault.TheVariants as w
-use Rattle.sirob.specs.Faults.{split_fault_text, worker_fault_text}
+use Rattle.si_workers.specs.declared.fault.WorkerFault.TheVariants as w
+use Rattle.si_workers.specs.Texts.{worker_fault_text}
+use Rattle.sirob.specs.Faults.{split_fault_text}
 
 abbrev pub fault_text : CommandFault → List ℕ
 fault_text (Input fault) = input_fault_text fault

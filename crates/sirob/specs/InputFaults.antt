@@ -22,6 +22,8 @@ use Rattle.si_engine.specs.Limits.{input_limit}
 use Rattle.si_engine.specs.Records.{records_of}
 use Rattle.si_engine.specs.Script.{script_of}
 use Rattle.si_workers.specs.declared.fault.WorkFault.{WorkFault}
+use Rattle.si_workers.specs.declared.fault.WorkerFault.{WorkerFault}
+use Rattle.si_workers.specs.Texts.{worker_fault_of}
 use Rattle.job_list.specs.declared.job.Job.{Job}
 use Rattle.si_workers.specs.Assigned.{assigned}
 use Rattle.job_list.specs.JobLines.{jobs_of}
@@ -31,8 +33,6 @@ use Rattle.sirob.specs.declared.command_line.Mode.TheVariants.{Certify, Verify, 
 use Rattle.sirob.specs.declared.parts.SplitFault.TheVariants as split_fault
 use Rattle.sirob.specs.declared.command_fault.CommandFault.{CommandFault}
 use Rattle.sirob.specs.declared.command_fault.CommandFault.TheVariants as fault
-use Rattle.sirob.specs.declared.worker_fault.WorkerFault.{WorkerFault}
-use Rattle.sirob.specs.Faults.{worker_fault_of}
 use Rattle.sirob.specs.Parts.{parts_of}
 use Rattle.sirob.specs.Inputs.{parts_wanted, IsDivided, HasSet, IsChecked, HasPart, IsRobust, MayRun, IsUnrepaired}
 

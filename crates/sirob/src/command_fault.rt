@@ -3,14 +3,13 @@ ghost use Rattle.std.specs.Prelude.{◌≡◌, IfOk, string_bytes};
 ghost use Rattle.sirob.specs.FaultLines.{fault_line, is_memory};
 
 use crate::parts::SplitFault;
-use crate::worker_fault::WorkerFault;
 use history_book::AuditFault;
 use prog_check::CheckFault;
 use prog_text::TextFault;
 use robust_cert::{CertFault, JsonFault};
 use si_engine::{InputFault, LineFault, PartFault};
 use si_repair::{AnalyseFault, RepairFault};
-use si_workers::WorkFault;
+use si_workers::{WorkFault, WorkerFault};
 use std::alloc::{AllocError, Global};
 use std::fmt;
 
@@ -173,7 +172,7 @@ impl From<AuditFault> for CommandFault {
 
 impl From<WorkFault<'_>> for CommandFault {
     ghost use Rattle.std.specs.Prelude.{◌≡◌};
-    ghost use Rattle.sirob.specs.Faults.{worker_fault_of};
+    ghost use Rattle.si_workers.specs.Texts.{worker_fault_of};
     ghost use Rattle.sirob.specs.declared.command_fault.CommandFault.TheVariants.{Work};
 
     ghost from_gives = { λ fault e. e ≡ Work (worker_fault_of fault) };

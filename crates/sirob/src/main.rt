@@ -15,7 +15,6 @@ mod run_command;
 mod run_work;
 mod sentences;
 mod status;
-mod worker_fault;
 
 use crate::program::carry_out;
 use si_engine::Port;

@@ -3,6 +3,9 @@ ghost use Rattle.std.specs.Prelude.{◌≡◌, false, true, IfOk, IfErr};
 ghost use Rattle.prog_tree.specs.Tree.{draft_tree};
 ghost use Rattle.prog_check.specs.Paths.{paths_of};
 ghost use Rattle.robust_cert.specs.Accepted.{IsAccepted};
+ghost use Rattle.robust_cert.specs.Refused.{IsFirstFault};
+ghost use Rattle.robust_cert.specs.declared.fault.CertFault.{CertFault};
+ghost use Rattle.sirob.specs.declared.command_fault.CommandFault.TheVariants as command_fault;
 ghost use Rattle.sirob.specs.FaultLines.{is_memory};
 ghost use Rattle.sirob.specs.Stops.{IsUnanalysedBy, IsVerified};
 
@@ -21,15 +24,19 @@ pub enum Verified {
     Refused(String),
 }
 
-// The set as a robust one, by a certificate of its own.
-fn accept(
+/// The set as a robust one, where the checker accepts a certificate for it.
+pub fn accept(
     alloc: Global,
     set: ProgramSet,
     certificate: &Certificate,
 ) -> Result<RobustSet, CommandFault>
-    requires { IsAccepted (paths_of (draft_tree set)) certificate.now }
-    ensures same { IfOk result (λ robust. robust ≡ set) }
-    ensures memory { IfErr result (λ fault. is_memory fault ≡ true) }
+    ensures accepted { IfOk result (λ robust. (robust ≡ set)
+        × IsAccepted (paths_of (draft_tree set)) certificate.now) }
+    ensures refused { IfErr result (λ fault. (f : CertFault)
+        × (fault ≡ command_fault.Certificate f)
+        × IsFirstFault (paths_of (draft_tree set)) certificate.now f) }
+    ensures taken { IsAccepted (paths_of (draft_tree set)) certificate.now
+        → IfErr result (λ fault. is_memory fault ≡ true) }
 {
     match verify(alloc, set, certificate) {
         Ok(robust) => Ok(robust),

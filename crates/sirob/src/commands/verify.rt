@@ -8,10 +8,11 @@ ghost use Rattle.sirob.specs.Stops.{IsPartDone, WritesWithEnd};
 ghost use Rattle.sirob.specs.declared.command_line.Mode.TheVariants as mode;
 
 use crate::command_fault::CommandFault;
+use crate::commands::robust::accept;
 use crate::lines::write_lines;
 use crate::status::Status;
 use prog_check::ProgramSet;
-use robust_cert::{from_json, verify};
+use robust_cert::from_json;
 use si_engine::Sink;
 use std::alloc::Global;
 
@@ -24,10 +25,8 @@ fn check_certificate(alloc: Global, set: ProgramSet, part: &[u8]) -> Result<(), 
         → IsFaultOfPart mode.Verify (draft_tree set) part.now fault) }
 {
     let certificate = from_json(alloc, part)?;
-    match verify(alloc, set, &certificate) {
-        Ok(_) => Ok(()),
-        Err((_, fault)) => Err(CommandFault::Certificate(fault)),
-    }
+    accept(alloc, set, &certificate)?;
+    Ok(())
 }
 
 /// Writes that a set is robust, where the bytes of a part are a certificate that is accepted for

@@ -2,10 +2,9 @@
 
 use crate::sentences::kept::Kept;
 use crate::sentences::kept_input::KeptInput;
-use crate::worker_fault::WorkerFault;
 use job_list::Way;
 use run_words::{ToldJobs, lost_job_words};
-use si_workers::{MAX_JOBS, MAX_WORKERS};
+use si_workers::{MAX_JOBS, MAX_WORKERS, WorkerFault};
 use std::alloc::{AllocError, Global};
 
 /// Which jobs did not commit.

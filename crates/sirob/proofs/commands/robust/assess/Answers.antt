@@ -14,4 +14,4 @@ returns-in_err-text-in-Refused-clause-err g c =
 pub returns-in_ok-robust-in-Robust-clause-ok : goal.returns-in_ok-robust-in-Robust-clause-ok
 returns-in_ok-robust-in-Robust-clause-ok g c =
     let right = subst (λ (f : Finding). IsRightFinding (paths_of (draft_tree c.args.set)) f) c.in-Robust.is c.in_ok-certificate.ensures.finding in
-    (c.in_ok-robust-in-Robust.ensures.same, record { certificate = c.in-Robust.certificate; accepted = right.0 })
+    (c.in_ok-robust-in-Robust.ensures.accepted.0, record { certificate = c.in-Robust.certificate; accepted = right.0 })
