@@ -18,11 +18,6 @@ place_of xs x (n, lt, is) = (n, slice_get-get_or xs n x lt ∙ ap Some is)
 later : {A : Type 0} (x y : A) (xs : List A) → Contains xs y → Contains (x ∷ xs) y
 later x y xs (k, lt, is) = (suc k, omega (arith, lt), is)
 
-pub contains_mapped : {A B : Type 0} (f : A → B) (xs : List A) (x : A) → Contains xs x → Contains (map f xs) (f x)
-contains_mapped f [] x (k, lt, is) = absurd (omega (arith, lt))
-contains_mapped f (y ∷ xs) x (zero, lt, is) = (zero, omega arith, ap f is)
-contains_mapped f (y ∷ xs) x (suc k, lt, is) = later (f y) (f x) (map f xs) (contains_mapped f xs x (k, omega (arith, lt), is))
-
 pub from_mapped : {A B : Type 0} (f : A → B) (xs : List A) (y : B) → Contains (map f xs) y → (x : A) × Contains xs x × (f x ≡ y)
 from_mapped f [] y (k, lt, is) = absurd (omega (arith, lt))
 from_mapped f (x ∷ xs) y (zero, lt, is) = (x, (zero, omega arith, refl), is)
