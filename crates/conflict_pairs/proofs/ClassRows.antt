@@ -19,6 +19,7 @@ use Rattle.prog_paths.specs.Places.{AreAlike, IsAt, all_from}
 use Rattle.prog_paths.specs.Questions.{Asks, asks}
 use Rattle.prog_paths.proofs.Questions.{all_places_stand}
 use Rattle.prog_paths.proofs.Membership.{Asks-from_asks}
+use Rattle.prog_paths.proofs.Marked.{same_access}
 use Rattle.conflict_pairs.specs.declared.classes.AccessClasses.{AccessClasses}
 use Rattle.conflict_pairs.specs.declared.class_pairs.ClassPairs.{ClassPairs}
 use Rattle.conflict_pairs.specs.declared.class_pairs.Row.{Row}
@@ -27,7 +28,6 @@ use Rattle.conflict_pairs.specs.Alike.{IsLikeAt}
 use Rattle.conflict_pairs.specs.Classes.{AreClassesOf, class_at, starts_from}
 use Rattle.conflict_pairs.specs.ClassPairs.{IsInRow, IsPairOf, row_at, AreClassPairs, HaveLastPlaces, AsksOneOf, HasPairWith, AddsRow}
 use Rattle.conflict_pairs.specs.Pairing.{IsAskedBetween, StandsAt, no_place, place_at}
-use Rattle.conflict_pairs.proofs.Likeness.{access_unique}
 use Rattle.conflict_pairs.proofs.OneClass.{place-stands}
 use Rattle.conflict_pairs.proofs.Paired.{all-stand, place-any}
 use Rattle.conflict_pairs.proofs.PlaceOrder.{number-once, asks-wider}
@@ -188,8 +188,8 @@ module _ (paths : List Path) (k : AccessClasses) (h : AreClassesOf paths k) wher
       let like = (h.classed.alike m n lt le same).accesses in
       let p = place_at (all_from 0 paths) m in
       let q = place_at (all_from 0 paths) n in
-      let one = access_unique paths p.node p.number like.one p.access like.at_one (all_places_stand paths m no_place lt) in
-      let other = access_unique paths q.node q.number like.other q.access like.at_other (all_places_stand paths n no_place le) in
+      let one = same_access paths p.node p.number like.one p.access like.at_one (all_places_stand paths m no_place lt) in
+      let other = same_access paths q.node q.number like.other q.access like.at_other (all_places_stand paths n no_place le) in
       subst (λ (b : Access). AreAlike p.access b) other (subst (λ (a : Access). AreAlike a like.other) one like.alike)
 
   pub alike-places : (m n : ℕ) → m < length L → n < length L → class_at k m ≡ class_at k n → AreAlike (place_at L m).access (place_at L n).access
@@ -221,7 +221,7 @@ module _ (paths : List Path) (k : AccessClasses) (h : AreClassesOf paths k) wher
   -- two placed accesses of one node and one number are the same
   same-place : (p r : Placed) → IsAt paths p → IsAt paths r → p.node ≡ r.node → p.number ≡ r.number → p ≡ r
   same-place p r at_p at_r node number =
-      let access = access_unique paths r.node r.number p.access r.access (subst (λ (x : ℕ). IsAccessOf paths x r.number p.access) node (subst (λ (a : ℕ). IsAccessOf paths p.node a p.access) number at_p)) at_r in
+      let access = same_access paths r.node r.number p.access r.access (subst (λ (x : ℕ). IsAccessOf paths x r.number p.access) node (subst (λ (a : ℕ). IsAccessOf paths p.node a p.access) number at_p)) at_r in
       λ i. record { node = node i; number = number i; access = access i }
 
   -- the accesses of a pair that is asked ask each other

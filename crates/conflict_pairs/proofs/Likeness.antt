@@ -16,6 +16,7 @@ use Rattle.prog_paths.specs.StaticGraph.{IsAccessOf}
 use Rattle.prog_paths.specs.Questions.{Asks, ChangesSingleCells, IsQuestion, between, numbers_of, question_between, two}
 use Rattle.prog_paths.specs.Facts.{question_facts}
 use Rattle.prog_paths.specs.Shown.{ShowEqual, key_pairs, CoversBy}
+use Rattle.prog_paths.proofs.Marked.{same_access}
 use Rattle.conflict_pairs.specs.declared.verdicts.Verdict.{Verdict}
 use Rattle.conflict_pairs.specs.declared.verdicts.Verdict.TheVariants.{Apart, Covered, Exposed}
 use Rattle.conflict_pairs.specs.Verdicts.{is_exposed, IsRight}
@@ -125,10 +126,6 @@ same-class paths classes x y h lt le same_class =
     covers-through (accesses_at paths x) (accesses_at paths (get_or classes x 0)) (accesses_at paths y) (h.same x lt)
     (subst (λ (k : ℕ). HaveSameCovers (accesses_at paths y) (accesses_at paths k)) (sym same_class) (h.same y le))
 
-pub access_unique : (paths : List Path) (x a : ℕ) (one other : Access) → IsAccessOf paths x a one → IsAccessOf paths x a other → one ≡ other
-access_unique paths x a one other h k =
-    same_Some one other (sym h.2 ∙ subst (λ (p : Path). slice_get p.accesses a ≡ Some other) (sym (same_Some h.0 k.0 (sym h.1 ∙ k.1))) k.2)
-
 -- accesses of one class are alike, as the covers of their nodes
 pub like_at-classes : (paths : List Path) (classes : List ℕ) (p q : Placed) → AreCoverClasses paths classes → IsAt paths p → IsAt paths q → AreOneClass classes p q → IsLikeAt paths p.node p.number q.node q.number
 like_at-classes paths classes p q classed at_p at_q h = record {
@@ -199,8 +196,8 @@ pub judged-like : (paths : List Path) (q r : Question) (v : Verdict) → IsLike 
 judged-like paths q r v like h mine theirs at_mine at_theirs =
     let first = like.0.accesses in
     let second = like.1.accesses in
-    let is_mine = access_unique paths q.x q.a first.one mine first.at_one at_mine in
-    let is_theirs = access_unique paths q.y q.b second.one theirs second.at_one at_theirs in
+    let is_mine = same_access paths q.x q.a first.one mine first.at_one at_mine in
+    let is_theirs = same_access paths q.y q.b second.one theirs second.at_one at_theirs in
     subst (λ (z : Access). IsJudged (accesses_at paths q.x) (accesses_at paths q.y) z theirs v) is_mine
     (subst (λ (z : Access). IsJudged (accesses_at paths q.x) (accesses_at paths q.y) first.one z v) is_theirs
     (judged-lists (accesses_at paths r.x) (accesses_at paths r.y) (accesses_at paths q.x) (accesses_at paths q.y) first.one second.one
@@ -228,8 +225,8 @@ exposed-alike paths q r found kept t u alike h k mine theirs at_mine at_theirs =
     let second = alike.1 in
     let xs = accesses_at paths q.x in
     let ys = accesses_at paths q.y in
-    subst (λ (z : Access). IsJudged xs ys z theirs kept) (access_unique paths q.x q.a first.one mine first.at_one at_mine)
-    (subst (λ (z : Access). IsJudged xs ys first.one z kept) (access_unique paths q.y q.b second.one theirs second.at_one at_theirs)
+    subst (λ (z : Access). IsJudged xs ys z theirs kept) (same_access paths q.x q.a first.one mine first.at_one at_mine)
+    (subst (λ (z : Access). IsJudged xs ys first.one z kept) (same_access paths q.y q.b second.one theirs second.at_one at_theirs)
     (exposed-shared xs ys (accesses_at paths r.x) (accesses_at paths r.y) first.one second.one first.other second.other found kept t u first.alike second.alike
     (h first.one second.one first.at_one second.at_one) (k first.other second.other first.at_other second.at_other)))
 

@@ -1,14 +1,16 @@
 -- What a right verdict on two accesses says of an edge between their nodes.
-use Rattle.std.proofs.Common.{◌≡◌, ℕ, ◌<◌, ◌⊎◌, inl, inr, Bool, true, false, List, refl, sym, subst, arith}
-use Rattle.std.proofs.lemmas.Bool.{false≢true, cases_order}
+use Rattle.std.proofs.Common.{◌≡◌, ℕ, ◌⊎◌, inl, inr, Bool, true, false, List, refl, sym, subst}
+use Rattle.std.proofs.lemmas.Bool.{false≢true}
 use Rattle.prog_check.specs.declared.path.Kind.{Kind}
-use Rattle.prog_check.specs.declared.path.Kind.TheVariants.{Reads, Sees, Writes, Adds}
+use Rattle.prog_check.specs.declared.path.Kind.TheVariants.{Writes}
 use Rattle.prog_check.specs.declared.path.Access.{Access}
 use Rattle.prog_check.specs.declared.path.Path.{Path}
 use Rattle.prog_paths.specs.Meeting.{Assignment, MeetsUnder, CanMeet}
 use Rattle.prog_paths.specs.Questions.{asks_read_write, asks_write_read, both_write}
 use Rattle.prog_paths.specs.StaticGraph.{QuestionNumbers, AsksReadWrite, AsksWriteRead, AsksWriteWrite, IsInOrder, HasQuestion, StaticEdge, IsExposed, IsVulnerable}
-use Rattle.prog_paths.proofs.Marked.{read_write-true}
+use Rattle.prog_paths.proofs.Marked.{read_write-true, write_read-true}
+use Rattle.prog_paths.proofs.Membership.{writes_both}
+use Rattle.prog_paths.proofs.Turned.{CanMeet-turned, turned, in_order-or_turned}
 use Rattle.conflict_pairs.specs.declared.verdicts.Verdict.{Verdict}
 use Rattle.conflict_pairs.specs.declared.verdicts.Verdict.TheVariants.{Apart, Covered, Exposed}
 use Rattle.conflict_pairs.specs.Classed.{HaveVerdict}
@@ -42,35 +44,6 @@ module _ (paths : List Path) (q : QuestionNumbers) (mine theirs : Access) where
 
 -- ---- two accesses that both write, in either order
 
-CanMeet-turned : (mine theirs : Access) → CanMeet mine theirs → CanMeet theirs mine
-CanMeet-turned mine theirs m = (m.1, m.0, turned m.0 m.1 m.2)
-  where
-    turned : (v w : Assignment) → MeetsUnder v w mine theirs → MeetsUnder w v theirs mine
-    turned v w h = record { mine_of_i64 = h.theirs_of_i64; theirs_of_i64 = h.mine_of_i64; meet = (h.meet.0, h.meet.2, h.meet.1) }
-
-abbrev turned : QuestionNumbers → QuestionNumbers
-turned q = record { x = q.y; a = q.b; y = q.x; b = q.a }
-
-in_order : (q : QuestionNumbers) → IsInOrder q ⊎ IsInOrder (turned q)
-in_order q = by (cases_order q.x q.y) (cases_order q.a q.b)
-  where
-    by : (q.x ≡ q.y) ⊎ ((q.x < q.y) ⊎ (q.y < q.x)) → (q.a ≡ q.b) ⊎ ((q.a < q.b) ⊎ (q.b < q.a)) → IsInOrder q ⊎ IsInOrder (turned q)
-    by (inr (inl l)) _ = inl (inl l)
-    by (inr (inr l)) _ = inr (inl l)
-    by (inl e) (inl k) = inl (inr (e, omega arith))
-    by (inl e) (inr (inl k)) = inl (inr (e, omega arith))
-    by (inl e) (inr (inr k)) = inr (inr (sym e, omega arith))
-
-write_read-true : (a b : Kind) → asks_write_read a b ≡ true → AsksWriteRead a b
-write_read-true Reads Writes e = inl (refl, inl refl)
-write_read-true Reads Adds e = inl (refl, inr refl)
-write_read-true Sees Adds e = inr (refl, refl)
-write_read-true _ _ e = absurd (false≢true e)
-
-both_write-true : (a b : Kind) → both_write a b ≡ true → (a ≡ Writes) × (b ≡ Writes)
-both_write-true Writes Writes e = (refl, refl)
-both_write-true _ _ e = absurd (false≢true e)
-
 -- ---- a right verdict on accesses of two nodes
 
 module _ (paths : List Path) (x y : ℕ) (mine theirs : Kind) (v : Verdict) (h : HaveVerdict paths x y mine theirs v) where
@@ -84,10 +57,10 @@ module _ (paths : List Path) (x y : ℕ) (mine theirs : Kind) (v : Verdict) (h :
   asked asks kinds m = record { question = h.question; from = h.from; to = h.to; mine = h.first; theirs = h.second; asked = h.asked; kinds = kinds; holds = m }
 
   writes : CanMeet h.first h.second → both_write mine theirs ≡ true → HasQuestion AsksWriteWrite Meets paths x y ⊎ HasQuestion AsksWriteWrite Meets paths y x
-  writes m k = by (in_order h.question)
+  writes m k = by (in_order-or_turned h.question)
     where
       kinds : (h.first.kind ≡ Writes) × (h.second.kind ≡ Writes)
-      kinds = both_write-true h.first.kind h.second.kind (moved both_write k)
+      kinds = writes_both h.first.kind h.second.kind (moved both_write k)
 
       by : IsInOrder h.question ⊎ IsInOrder (turned h.question) → HasQuestion AsksWriteWrite Meets paths x y ⊎ HasQuestion AsksWriteWrite Meets paths y x
       by (inl o) = inl (asked AsksWriteWrite (kinds.0, kinds.1, o) m)

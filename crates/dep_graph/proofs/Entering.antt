@@ -5,32 +5,12 @@ use Rattle.std.specs.List.{list_any}
 use Rattle.std.proofs.lemmas.Bool.Decides.{eqb_tells}
 use Rattle.std.proofs.lemmas.List.{take_more}
 use Rattle.std.proofs.lemmas.List.Folds.{list_any-append}
+use Rattle.std.proofs.Math.Bool.{or_assoc, or-false, and-or_distrib_left, and-or_distrib_right}
 use Rattle.order_facts.specs.Sets.{is_in, InsertsNode}
 use Rattle.order_facts.specs.Square.{Grid, entry, IsEmptySquare, IsSquareOf, Enters, JoinsSet}
 use Rattle.prog_paths.specs.declared.accesses.mark.EdgeTables.{EdgeTables}
 use Rattle.conflict_pairs.specs.Classed.{ClassAnswer}
 use Rattle.dep_graph.specs.Edges.{answer_edge, answer_vulnerable, is_one_of, EntersAnswer}
-
-or-nothing : (b : Bool) → (b || false) ≡ b
-or-nothing true = refl
-or-nothing false = refl
-
-or-regrouped : (a b c : Bool) → ((a || b) || c) ≡ (a || (b || c))
-or-regrouped true b c = refl
-or-regrouped false b c = refl
-
-and-shared : (a b c : Bool) → ((a && c) || (b && c)) ≡ ((a || b) && c)
-and-shared true true true = refl
-and-shared true true false = refl
-and-shared true false true = refl
-and-shared true false false = refl
-and-shared false true true = refl
-and-shared false true false = refl
-and-shared false false c = refl
-
-and-shared-left : (a b c : Bool) → ((a && b) || (a && c)) ≡ (a && (b || c))
-and-shared-left true b c = refl
-and-shared-left false b c = refl
 
 -- ---- one more of a list
 
@@ -39,7 +19,7 @@ module _ {A : Type 0} (p : A → Bool) (xs : List A) (n : ℕ) (d : A) (inside :
   any-more =
       ap (list_any p) (take_more xs n d inside)
       ∙ list_any-append p (take n xs) (get_or xs n d ∷ [])
-      ∙ ap (λ (b : Bool). list_any p (take n xs) || b) (or-nothing (p (get_or xs n d)))
+      ∙ ap (λ (b : Bool). list_any p (take n xs) || b) (or-false (p (get_or xs n d)))
 
 -- ---- one table
 
@@ -47,7 +27,7 @@ pub Enters-as : (old new : Grid) (t u : ℕ → ℕ → Bool) → ((i j : ℕ) �
 Enters-as old new t u same e = record { size = e.size; entries = λ i j p q. e.entries i j p q ∙ ap (λ (b : Bool). entry old i j || b) (same i j p q) }
 
 pub Enters-nothing : (grid : Grid) (t : ℕ → ℕ → Bool) → ((i j : ℕ) → t i j ≡ false) → Enters grid grid t
-Enters-nothing grid t none = record { size = refl; entries = λ i j p q. sym (ap (λ (b : Bool). entry grid i j || b) (none i j) ∙ or-nothing (entry grid i j)) }
+Enters-nothing grid t none = record { size = refl; entries = λ i j p q. sym (ap (λ (b : Bool). entry grid i j || b) (none i j) ∙ or-false (entry grid i j)) }
 
 pub Enters-then : (first old new : Grid) (t u : ℕ → ℕ → Bool) → Enters first old t → Enters old new u → Enters first new (λ i j. t i j || u i j)
 Enters-then first old new t u d e = record {
@@ -55,7 +35,7 @@ Enters-then first old new t u d e = record {
   entries = λ i j p q.
       e.entries i j (omega (arith, p, d.size)) (omega (arith, q, d.size))
       ∙ ap (λ (b : Bool). b || u i j) (d.entries i j p q)
-      ∙ or-regrouped (entry first i j) (t i j) (u i j);
+      ∙ or_assoc (entry first i j) (t i j) (u i j);
 }
 
 -- one node more of some is joined to another one, or it to one node more
@@ -65,7 +45,7 @@ pub one-more-first : (nodes : List ℕ) (n : ℕ) → n < length nodes → (firs
 one-more-first nodes n inside first old new x y is before one =
     Enters-as first new _ _
     (λ i j p q.
-    and-shared (is_one_of (take n nodes) i) (x == i) (y == j)
+    sym (and-or_distrib_right (is_one_of (take n nodes) i) (x == i) (y == j))
     ∙ ap (λ (b : Bool). b && (y == j)) (ap (λ (m : ℕ). is_one_of (take n nodes) i || m == i) is ∙ sym (any-more (λ m. m == i) nodes n 0 inside)))
     (Enters-then first old new _ _ before one)
 
@@ -75,7 +55,7 @@ pub one-more-second : (nodes : List ℕ) (n : ℕ) → n < length nodes → (fir
 one-more-second nodes n inside first old new x y is before one =
     Enters-as first new _ _
     (λ i j p q.
-    and-shared-left (x == i) (is_one_of (take n nodes) j) (y == j)
+    sym (and-or_distrib_left (x == i) (is_one_of (take n nodes) j) (y == j))
     ∙ ap (λ (b : Bool). (x == i) && b) (ap (λ (m : ℕ). is_one_of (take n nodes) j || m == j) is ∙ sym (any-more (λ m. m == j) nodes n 0 inside)))
     (Enters-then first old new _ _ before one)
 
@@ -91,7 +71,7 @@ Enters-row old new row members joins = record { size = joins.size; entries = λ 
         (joins.here j q ∙ ap (λ (b : Bool). entry old row j || (b && is_in members j)) (sym e.0))
     by i j p q (inr d) =
         joins.others i j p q (λ k. d.1 (sym k))
-        ∙ sym (ap (λ (b : Bool). entry old i j || (b && is_in members j)) d.0 ∙ or-nothing (entry old i j))
+        ∙ sym (ap (λ (b : Bool). entry old i j || (b && is_in members j)) d.0 ∙ or-false (entry old i j))
 
 module _ (nodes : List ℕ) (n : ℕ) (inside : n < length nodes) where
   node : ℕ
@@ -102,7 +82,7 @@ module _ (nodes : List ℕ) (n : ℕ) (inside : n < length nodes) where
   Enters-row_more first old new members row is before joins =
       Enters-as first new _ _
       (λ i j p q.
-      and-shared (is_one_of (take n nodes) i) (row == i) (is_in members j)
+      sym (and-or_distrib_right (is_one_of (take n nodes) i) (row == i) (is_in members j))
       ∙ ap (λ (b : Bool). b && is_in members j) (ap (λ (m : ℕ). is_one_of (take n nodes) i || m == i) is ∙ sym (any-more (λ m. m == i) nodes n 0 inside)))
       (Enters-then first old new _ _ before (Enters-row old new row members joins))
 
@@ -112,7 +92,7 @@ module _ (nodes : List ℕ) (n : ℕ) (inside : n < length nodes) where
     where
       by : (((get_or nodes n 0 == i) ≡ true) × (get_or nodes n 0 ≡ i)) ⊎ (((get_or nodes n 0 == i) ≡ false) × (get_or nodes n 0 ≢ i)) → (is_one_of (take n nodes) i || get_or nodes n 0 == i) ≡ is_one_of (take n nodes) i
       by (inl e) = let k = e.1 in absurd (omega (arith, l, k))
-      by (inr d) = ap (λ (b : Bool). is_one_of (take n nodes) i || b) d.0 ∙ or-nothing (is_one_of (take n nodes) i)
+      by (inr d) = ap (λ (b : Bool). is_one_of (take n nodes) i || b) d.0 ∙ or-false (is_one_of (take n nodes) i)
 
   pub Enters-row_beyond : (first old : Grid) (members : List Bool) → (old.size ≡ first.size) → old.size ≤ get_or nodes n 0 → Enters first old (λ x y. is_one_of (take n nodes) x && is_in members y) → Enters first old (λ x y. is_one_of (take (n + 1) nodes) x && is_in members y)
   Enters-row_beyond first old members same out before =
@@ -130,7 +110,7 @@ module _ (nodes : List ℕ) (n : ℕ) (inside : n < length nodes) where
           true-behind false b h = h
       by (inr d) =
           inserts.others m (omega (arith, p, same)) (λ k. d.1 (sym k)) ∙ before
-          ∙ sym (ap (λ (b : Bool). is_one_of (take n nodes) m || b) d.0 ∙ or-nothing (is_one_of (take n nodes) m))
+          ∙ sym (ap (λ (b : Bool). is_one_of (take n nodes) m || b) d.0 ∙ or-false (is_one_of (take n nodes) m))
 
   pub in-beyond : (set : List Bool) (size m : ℕ) → size ≤ get_or nodes n 0 → m < size → is_in set m ≡ is_one_of (take n nodes) m → is_in set m ≡ is_one_of (take (n + 1) nodes) m
   in-beyond set size m out p before = before ∙ sym (beyond m (omega (arith, out, p)))

@@ -17,7 +17,7 @@ use Rattle.conflict_pairs.proofs.Moving.{IsRight-there}
 use Rattle.dep_graph.specs.declared.danger.Exposure.{Exposure}
 use Rattle.dep_graph.specs.Danger.{IsExposureAt, IsLeastOfAccess, IsLeastExposed}
 use Rattle.dep_graph.proofs.Deciding.{right-exposed}
-use Rattle.dep_graph.proofs.Entries.{element_at}
+use Rattle.prog_tree.proofs.Elements.{element_at}
 
 -- ---- the accesses of a node
 

@@ -1,11 +1,12 @@
 -- The numbers that are free: those that were passed over, and those from the next on that wait for none.
 use Rattle.std.proofs.Common.{◌≡◌, ◌≢◌, ℕ, zero, suc, ◌+◌, ◌-◌, ◌<◌, ◌≤◌, ◌==◌, ◌&&◌, ◌||◌, Bool, true, false, not, cond, List, [], ◌∷◌, ◌++◌, length, slice_index, max, ◌⊎◌, inl, inr, refl, sym, ap, ◌∙◌, subst, arith, nat_cmp, nat_lt, All}
-use Rattle.std.specs.Prelude.{filter, Option, Some, None, IfNone}
+use Rattle.std.specs.Prelude.{filter, Option}
 use Rattle.std.specs.List.{range_with_len}
 use Rattle.std.specs.BTreeMap.Range.{IsLtBy}
 use Rattle.std.proofs.lemmas.Bool.{eq-eqb, ne_eqb, cases_Bool, cases_lt, false≢true}
 use Rattle.std.proofs.lemmas.Bool.Decides.{nat_tests, eqb_tells}
 use Rattle.std.proofs.lemmas.List.Folds.{list_any-append}
+use Rattle.std.proofs.Math.Bool.{and-false}
 use Rattle.history_book.specs.Orders.{is_one_of}
 use Rattle.history_book.specs.Placing.{times, free_from, all_free, AreBelow, IsNextFree, IsLeastFirst}
 use Rattle.history_book.proofs.NumberLists.{Same, Either, above-all, one-times}
@@ -15,10 +16,6 @@ use Rattle.history_book.proofs.NumberLists.{Same, Either, above-all, one-times}
 one-append : (xs ys : List ℕ) (n : ℕ) → is_one_of (xs ++ ys) n ≡ (is_one_of xs n || is_one_of ys n)
 one-append xs ys n = list_any-append (λ m. m == n) xs ys
 
-and-no : (b : Bool) → (b && false) ≡ false
-and-no true = refl
-and-no false = refl
-
 one-filter : (f : ℕ → Bool) (xs : List ℕ) (n : ℕ) → is_one_of (filter f xs) n ≡ (is_one_of xs n && f n)
 one-filter f [] n = refl
 one-filter f (x ∷ xs) n = go (cases_Bool (f x)) (eqb_tells x n) (one-filter f xs n)
@@ -26,7 +23,7 @@ one-filter f (x ∷ xs) n = go (cases_Bool (f x)) (eqb_tells x n) (one-filter f 
     go : Either (f x) → Same x n → is_one_of (filter f xs) n ≡ (is_one_of xs n && f n) → is_one_of (filter f (x ∷ xs)) n ≡ (is_one_of (x ∷ xs) n && f n)
     go (inl t) (inl e) l = rw (t, e.0) (sym (subst (λ m. f m ≡ true) e.1 t))
     go (inl t) (inr e) l = rw (t, e.0) l
-    go (inr t) (inl e) l = let z : f n ≡ false = subst (λ m. f m ≡ false) e.1 t in rw (t, e.0) (l ∙ rw z (and-no (is_one_of xs n)))
+    go (inr t) (inl e) l = let z : f n ≡ false = subst (λ m. f m ≡ false) e.1 t in rw (t, e.0) (l ∙ rw z (and-false (is_one_of xs n)))
     go (inr t) (inr e) l = rw (t, e.0) l
 
 one-range : (c k n : ℕ) → is_one_of (range_with_len k c) n ≡ (not (nat_lt n k) && nat_lt n (k + c))
@@ -75,10 +72,6 @@ module _ (old new : List ℕ) (next n : ℕ) (is : old ≡ n ∷ new) (below : A
 pub no-numbers : (ns : List ℕ) → length ns ≤ 0 → ns ≡ []
 no-numbers [] h = refl
 no-numbers (n ∷ ns) h = absurd (omega arith)
-
-pub none_then : (o : Option ℕ) (P Q : Type 0) → IfNone o P → (P → Q) → IfNone o Q
-none_then None P Q p f = f p
-none_then (Some n) P Q p f = tt
 
 pub passed-first : (old new waits : List ℕ) (next n : ℕ) → old ≡ n ∷ new → All (IsLtBy nat_cmp n) new → AreBelow next old
     → IsLeastFirst (all_free old waits next) (all_free new waits (max next (n + 1))) n

@@ -5,6 +5,7 @@ use Rattle.std.specs.Option.{option_or}
 use Rattle.std.specs.List.{list_any}
 use Rattle.std.proofs.lemmas.Bool.{and_from, and_parts, or_left, or_right}
 use Rattle.std.proofs.lemmas.Bool.Decides.{eqb_tells}
+use Rattle.std.proofs.Math.Bool.{or_assoc}
 use Rattle.prog_tree.specs.declared.cell.Cell.{Cell}
 use Rattle.prog_tree.specs.declared.cell.Region.{Region}
 use Rattle.prog_tree.specs.Table.{is_same_cell, is_cell_among}
@@ -230,17 +231,13 @@ by_look_some j a b = go (nat_lt a.start j)
     go true = chained_some (looked_at a) (missed_at a) b.changed (looked_found a)
     go false = refl
 
-grouped : (x y z : Bool) → ((x || y) || z) ≡ (x || (y || z))
-grouped true y z = refl
-grouped false y z = refl
-
 pub told_tells : (traces : List TraceView) (i j : ℕ) → is_some (told_reason traces i j) ≡ trace_depends traces i j
 told_tells traces i j =
     go (i == j)
     ∙ ap (λ found. not (i == j) && found)
     (or_some (by_change i j a b) (by_look j a b)
     ∙ (λ k. by_change_some k || by_look_some j a b k)
-    ∙ grouped (changes_again traces i j) (sees_change traces i j) (misses_change traces i j))
+    ∙ or_assoc (changes_again traces i j) (sees_change traces i j) (misses_change traces i j))
   where
     a : TraceView
     a = trace_at traces i

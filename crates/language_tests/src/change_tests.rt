@@ -4,6 +4,7 @@ use crate::played::{CELL_1_0, CELL_2_0};
 use crate::told::is_told;
 use prog_tree::{
     Cell, Changes, Env, Piece, Progress, Region, RisingCells, RowPieces, Rows, Sequence,
+    lies_between,
 };
 use std::alloc::{AllocError, Global};
 use std::process::Abort;
@@ -74,6 +75,7 @@ fn a_region_holds_its_ends(rt: HostRuntime) {
             "{table} {first} {second}"
         );
     }
+    assert!(rt; lies_between(1, 1, 3) && lies_between(1, 3, 3) && !lies_between(1, 4, 3));
 }
 
 #[test]

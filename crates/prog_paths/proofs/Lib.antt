@@ -36,3 +36,4 @@ pub mod Few
 pub mod Edges
 pub mod Grids
 pub mod Marked
+pub mod Turned

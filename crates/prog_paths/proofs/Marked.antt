@@ -26,7 +26,7 @@ true-read_write a b (inl (x, inl y)) = rw (x, y) refl
 true-read_write a b (inl (x, inr y)) = rw (x, y) refl
 true-read_write a b (inr (x, y)) = rw (x, y) refl
 
-write_read-true : (a b : Kind) → asks_write_read a b ≡ true → AsksWriteRead a b
+pub write_read-true : (a b : Kind) → asks_write_read a b ≡ true → AsksWriteRead a b
 write_read-true Reads Writes e = inl (refl, inl refl)
 write_read-true Reads Adds e = inl (refl, inr refl)
 write_read-true Sees Adds e = inr (refl, refl)

@@ -113,7 +113,7 @@ in_order first second e = go (or_cases (nat_lt first.node second.node) _ e)
     go (inl h) = inl (ltb-true first.node second.node h)
     go (inr h) = let p = and_parts (first.node == second.node) _ h in inr (eqb-true first.node second.node p.0, leb-true first.number second.number p.1)
 
-writes_both : (mine theirs : Kind) → both_write mine theirs ≡ true → (mine ≡ Writes) × (theirs ≡ Writes)
+pub writes_both : (mine theirs : Kind) → both_write mine theirs ≡ true → (mine ≡ Writes) × (theirs ≡ Writes)
 writes_both Writes Writes e = (refl, refl)
 writes_both _ _ e = absurd (false≢true e)
 

@@ -3,14 +3,12 @@ use Rattle.std.proofs.Common.{◌≡◌, List, [], ◌∷◌, Bool, true, false,
 use Rattle.std.specs.Prelude.{ℤ, Some, if◌then◌else◌}
 use Rattle.std.specs.List.{All, AllByRecursion}
 use Rattle.std.proofs.lemmas.List.Elements.{recursion_from_All}
+use Rattle.std.proofs.lemmas.Option.{same_Some}
 use Rattle.prog_tree.specs.declared.cell.Cell.{Cell}
 use Rattle.prog_tree.specs.Syntax.{ExprTree, KeyTree, One, Two, StatementTree, BlockTree, BlockEnd, Then, Branch, Each}
 use Rattle.prog_tree.specs.Syntax as s
 use Rattle.prog_tree.specs.Number.{IsI64}
 use Rattle.prog_tree.specs.Table.{TableState, row_at, is_same_cell, HasI64Rows, IsI64Row}
-
-some_is : (a b : ℤ) → Some a ≡ Some b → a ≡ b
-some_is a b e = cc
 
 abbrev pub AllI64 : List ℤ → Type 0
 AllI64 = AllByRecursion IsI64
@@ -57,5 +55,5 @@ row_i64 [] c z h e = absurd (cc)
 row_i64 (row ∷ rows) c z h e = here (row_i64 rows c z h.1) (is_same_cell c row.0) e
   where
     here : (row_at rows c ≡ Some z → IsI64 z) → (b : Bool) → (if b then Some row.1 else row_at rows c) ≡ Some z → IsI64 z
-    here later true is = subst IsI64 (some_is row.1 z is) h.0.1
+    here later true is = subst IsI64 (same_Some row.1 z is) h.0.1
     here later false is = later is

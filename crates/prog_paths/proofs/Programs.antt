@@ -2,6 +2,7 @@
 use Rattle.std.proofs.Common.{◌≡◌, ℕ, zero, suc, Bool, true, false, List, [], ◌∷◌, ◌⊎◌, inl, inr, zip, refl, sym, subst, ap, ◌∙◌, arith}
 use Rattle.std.specs.Prelude.{ℤ, Option, Some, None, slice_get, if◌then◌else◌}
 use Rattle.std.specs.Option.{option_or}
+use Rattle.std.proofs.lemmas.Option.{same_Some}
 use Rattle.prog_tree.specs.declared.cell.Cell.{Cell}
 use Rattle.prog_tree.specs.declared.deed.End.TheVariants.{Ready}
 use Rattle.prog_tree.specs.declared.progress.Progress.{Progress}
@@ -86,9 +87,6 @@ nth_at [] i x e = absurd (cc)
 nth_at (a ∷ as_) zero x e = cc
 nth_at (a ∷ as_) (suc i) x e = nth_at as_ i x e
 
-some_of : (a b : ℤ) → Some a ≡ Some b → a ≡ b
-some_of a b e = cc
-
 zip_i64 : (params : List Name) (args : List ℤ) → AllI64 args → EnvOfI64 (zip params args)
 zip_i64 [] args h x z e = absurd (cc)
 zip_i64 (p ∷ ps) [] h x z e = absurd (cc)
@@ -96,7 +94,7 @@ zip_i64 (p ∷ ps) (a ∷ as_) h x z e = go (value_in (zip ps as_) x) refl (same
   where
     go : (o : Option ℤ) → value_in (zip ps as_) x ≡ o → (b : Bool) → (value_in (zip ps as_) x ≡ Some z → IsI64 z) → option_or o (if b then Some a else None) ≡ Some z → IsI64 z
     go (Some w) is b later k = later (is ∙ k)
-    go None is true later k = subst IsI64 (some_of a z k) h.0
+    go None is true later k = subst IsI64 (same_Some a z k) h.0
     go None is false later k = absurd (cc)
 
 pub program_follows : (tables : List TableDecl) (number : ℕ) (program : ProgramTree) (args : List ℤ) (m : TableState) → ProgramSound tables program args → AllI64 args → RowsOfI64 m → BlockFits program.body →

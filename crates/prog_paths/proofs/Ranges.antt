@@ -4,6 +4,7 @@ use Rattle.std.proofs.lemmas.List.Elements.{All-filter, All-from_recursion, recu
 use Rattle.std.specs.Prelude.{ℤ, pos, ◌+ℤ◌, ◌-ℤ◌, ◌*ℤ◌, Option, Some, None, IfSome, not, if◌then◌else◌}
 use Rattle.std.specs.List.{AllByRecursion}
 use Rattle.std.specs.Option.{option_or}
+use Rattle.std.proofs.lemmas.Option.{same_Some}
 use Rattle.prog_tree.specs.declared.cell.Cell.{Cell}
 use Rattle.prog_tree.specs.declared.cell.Region.{Region}
 use Rattle.prog_tree.specs.declared.progress.Progress.{Progress}
@@ -40,14 +41,11 @@ pub record Ranged (m : TableState) (p : Progress) : Type 0 where
   pub env : EnvOfI64 p.env
   pub changes : ChangesOfI64 p.changes
 
-some_is : (a b : ℤ) → Some a ≡ Some b → a ≡ b
-some_is a b e = cc
-
 pub exact_i64 : (w z : ℤ) → exact w ≡ Some z → IsI64 z
 exact_i64 w z e = go (is_i64 w) refl e
   where
     go : (b : Bool) → is_i64 w ≡ b → (if b then Some w else None) ≡ Some z → IsI64 z
-    go true is h = subst IsI64 (some_is w z h) ((i64_is_tested w).0 is)
+    go true is h = subst IsI64 (same_Some w z h) ((i64_is_tested w).0 is)
     go false is h = absurd (cc)
 
 both_i64 : (f : ℤ → ℤ → ℤ) (a b : Option ℤ) (z : ℤ) → both f a b ≡ Some z → IsI64 z
@@ -56,7 +54,7 @@ both_i64 f (Some x) None z e = absurd (cc)
 both_i64 f None b z e = absurd (cc)
 
 pub value_i64 : (e : ExprTree) (env : Bindings) (z : ℤ) → EnvOfI64 env → LiteralFits e → value_of e env ≡ Some z → IsI64 z
-value_i64 (s.Literal n) env z fits h e = subst IsI64 (some_is n z e) h
+value_i64 (s.Literal n) env z fits h e = subst IsI64 (same_Some n z e) h
 value_i64 (s.Named x) env z fits h e = fits x z e
 value_i64 (s.Plus a b) env z fits h e = both_i64 ◌+ℤ◌ (value_of a env) (value_of b env) z e
 value_i64 (s.Minus a b) env z fits h e = both_i64 ◌-ℤ◌ (value_of a env) (value_of b env) z e
@@ -66,7 +64,7 @@ pub env_push : (env : Bindings) (y : Name) (v : ℤ) → EnvOfI64 env → IsI64 
 env_push env y v fits h x z e = go (same_name y x) (sym (value_in_push env (y, v) x) ∙ e)
   where
     go : (b : Bool) → option_or (if b then Some v else None) (value_in env x) ≡ Some z → IsI64 z
-    go true k = subst IsI64 (some_is v z k) h
+    go true k = subst IsI64 (same_Some v z k) h
     go false k = fits x z k
 
 pub changes_put : (changes : ChangeSet) (cell : Cell) (w : Option ℤ) → ChangesOfI64 changes → IsI64Cell cell → MayBeI64 w → ChangesOfI64 (with_change changes cell w)

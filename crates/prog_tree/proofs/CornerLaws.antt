@@ -107,19 +107,19 @@ between r c h =
 
 -- ---- the corners of a region whose ends are in order
 
-in_order : (x y : ℤ) → int_lt y x ≡ false → int_le x y ≡ true
-in_order (pos a) (pos b) h = let fact : leb (suc b) a ≡ false = h in grind (arith, nat_tests)
-in_order (pos a) (negsuc b) h = absurd (cc)
-in_order (negsuc a) (pos b) h = refl
-in_order (negsuc a) (negsuc b) h = let fact : leb (suc a) b ≡ false = h in grind (arith, nat_tests)
+pub int_le-from_not_lt : (x y : ℤ) → int_lt y x ≡ false → int_le x y ≡ true
+int_le-from_not_lt (pos a) (pos b) h = let fact : leb (suc b) a ≡ false = h in grind (arith, nat_tests)
+int_le-from_not_lt (pos a) (negsuc b) h = absurd (cc)
+int_le-from_not_lt (negsuc a) (pos b) h = refl
+int_le-from_not_lt (negsuc a) (negsuc b) h = let fact : leb (suc a) b ≡ false = h in grind (arith, nat_tests)
 
 not_above_itself : (x : ℤ) → int_le x x ≡ true
-not_above_itself (pos a) = let fact : leb (suc a) a ≡ false = grind (arith, nat_tests) in in_order (pos a) (pos a) fact
-not_above_itself (negsuc a) = let fact : leb (suc a) a ≡ false = grind (arith, nat_tests) in in_order (negsuc a) (negsuc a) fact
+not_above_itself (pos a) = let fact : leb (suc a) a ≡ false = grind (arith, nat_tests) in int_le-from_not_lt (pos a) (pos a) fact
+not_above_itself (negsuc a) = let fact : leb (suc a) a ≡ false = grind (arith, nat_tests) in int_le-from_not_lt (negsuc a) (negsuc a) fact
 
 -- a column's ends lie between themselves
 ends_within : (x y : ℤ) → int_lt y x ≡ false → lies_between x x y ≡ true × lies_between x y y ≡ true
-ends_within x y h = (and_from _ _ (not_above_itself x) (in_order x y h), and_from _ _ (in_order x y h) (not_above_itself y))
+ends_within x y h = (and_from _ _ (not_above_itself x) (int_le-from_not_lt x y h), and_from _ _ (int_le-from_not_lt x y h) (not_above_itself y))
 
 pub corners_of : (r : Region) → int_lt r.first_high r.first_low ≡ false → int_lt r.second_high r.second_low ≡ false → AreCorners r (Some (low_corner r, high_corner r))
 corners_of r first second =

@@ -1,17 +1,35 @@
 -- Elements of lists: at a place, behind a map, in a longer list, left of it, passing a test, and by recursion.
-use Rattle.std.proofs.Common.{◌≡◌, ◌+◌, ℕ, ◌⊎◌, inl, inr, Bool, true, List, [], ◌∷◌, ◌++◌, length, map, refl, sym, subst, ap, ◌∙◌, append_assoc, append-nil, arith, zero, suc, Contains, Some}
+use Rattle.std.proofs.Common.{◌≡◌, ◌+◌, ℕ, ◌⊎◌, inl, inr, Bool, true, List, [], ◌∷◌, ◌++◌, ◌<◌, ◌-◌, length, take, drop, map, refl, sym, subst, ap, ◌∙◌, append_assoc, append-nil, arith, zero, suc, Contains, Some}
 use Rattle.std.specs.Prelude.{slice_get, All}
 use Rattle.std.specs.List.{list_any}
 use Rattle.std.proofs.lemmas.Bool.{false≢true, or_cases}
 use Rattle.std.proofs.lemmas.List.Elements.{All-contains}
 use Rattle.std.proofs.lemmas.List.Folds.{list_any_at}
 use Rattle.std.proofs.lemmas.Option.{none-some, same_Some, slice_get_within, get_or_from_slice_get, slice_get-get_or}
+use Rattle.std.proofs.lemmas.Grind.{common_steps}
 
 pub contains_at : {A : Type 0} (xs : List A) (n : ℕ) (x : A) → slice_get xs n ≡ Some x → Contains xs x
 contains_at xs n x at = (n, slice_get_within xs n x at, get_or_from_slice_get xs n x x at)
 
 pub place_of : {A : Type 0} (xs : List A) (x : A) → Contains xs x → (n : ℕ) × (slice_get xs n ≡ Some x)
 place_of xs x (n, lt, is) = (n, slice_get-get_or xs n x lt ∙ ap Some is)
+
+pub element_at : {A : Type 0} (xs : List A) (n : ℕ) → n < length xs → (x : A) × (slice_get xs n ≡ Some x)
+element_at [] n inside = absurd (omega (arith, inside))
+element_at (x ∷ xs) zero inside = (x, refl)
+element_at (x ∷ xs) (suc n) inside = element_at xs n (omega (arith, inside))
+
+-- a list of one element has this alone
+pub contains_itself : {A : Type 0} (x : A) → Contains (x ∷ []) x
+contains_itself x = (0, omega arith, refl)
+
+pub contains_only : {A : Type 0} (x y : A) → Contains (x ∷ []) y → x ≡ y
+contains_only x y (zero, inside, is) = is
+contains_only x y (suc n, inside, is) = absurd (omega (arith, inside))
+
+-- of what is left behind some first elements, as many as there are
+pub take_all-drop : (xs : List ℕ) (n : ℕ) → take (length xs - n) (drop n xs) ≡ drop n xs
+take_all-drop xs n = grind (arith, common_steps)
 
 -- ---- behind a map
 

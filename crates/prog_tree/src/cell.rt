@@ -23,7 +23,8 @@ pub struct Region {
     pub second_high: i64,
 }
 
-fn lies_between(low: i64, x: i64, high: i64) -> bool
+/// Whether a number lies between two ends, or is one of them.
+pub fn lies_between(low: i64, x: i64, high: i64) -> bool
     ensures { result ≡ lies_between low x high }
 {
     low <= x && x <= high

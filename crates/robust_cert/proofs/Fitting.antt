@@ -1,5 +1,5 @@
 -- Numbers in their ranges, and what is so anyway.
-use Rattle.std.proofs.Common.{◌≡◌, ◌≤◌, ◌-◌, ℕ, List, [], ◌∷◌, length, take, drop, get_or, subst, arith, Result, Ok, Err, OnOk, OnErr}
+use Rattle.std.proofs.Common.{◌≡◌, ◌≤◌, ◌-◌, ℕ, List, [], ◌∷◌, length, take, drop, get_or, subst, arith, Result, Ok, Err, OnOk}
 use Rattle.std.proofs.lemmas.Grind.{common_steps}
 use Rattle.std.proofs.lemmas.List.Elements.{All-cons}
 use Rattle.std.specs.Prelude.{All}
@@ -29,8 +29,3 @@ all_from_first P (y ∷ ys) x i some e past p rest =
 pub on_ok_anyway : {T E P : Type 0} (r : Result T E) → P → OnOk r P
 on_ok_anyway (Ok _) p = p
 on_ok_anyway (Err _) p = tt
-
--- and of an `Err`
-pub on_err_anyway : {T E P : Type 0} (r : Result T E) → P → OnErr r P
-on_err_anyway (Ok _) p = tt
-on_err_anyway (Err _) p = p

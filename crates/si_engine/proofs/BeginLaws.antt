@@ -10,6 +10,7 @@ use Rattle.std.specs.Option.{option_or}
 use Rattle.prog_tree.specs.declared.program.Draft.{Draft}
 use Rattle.prog_tree.specs.declared.program.Program.{Program}
 use Rattle.prog_tree.specs.Tree.{draft_tree, program_tree}
+use Rattle.prog_tree.proofs.Outcomes.{on_any_err}
 use Rattle.prog_run.specs.Looks.{AreFound}
 use Rattle.prog_run.specs.View.{RunView, IsTrueRun, begun}
 use Rattle.history_book.specs.History.{Instance}
@@ -20,7 +21,6 @@ use Rattle.history_book.specs.View.{BookView, state_in, instance_of, history_of,
 use Rattle.history_book.specs.declared.fault.BeginFault.{BeginFault}
 use Rattle.history_book.specs.declared.fault.BeginFault.TheVariants.{WrongArguments, TooOld, TooNew, Full}
 use Rattle.history_book.proofs.HistoryLaws.{get-push}
-use Rattle.version_store.proofs.ChainsLaws.{at_error}
 use Rattle.si_engine.specs.Machine.{Active, Machine, active_of, is_full, at_begin, begin_at_by}
 use Rattle.si_engine.specs.View.{EngineView, instance_in, active_in, begun_of, machine_of, IsHeld, IsEngine, StaysOver, IsAnswerTo, MayLackMemory, Applies, numbered, answer_to, takes_memory}
 use Rattle.si_engine.specs.declared.active.ActiveRun.{ActiveRun}
@@ -107,7 +107,7 @@ module _ (v : BookView) (runs : List (Option ActiveRun)) (kept : IsEngine v runs
       pub begin_lacks : {old new : EngineView} {r : Result Reply AllocError} → view_of v runs ≡ old → StaysOver old new →
           IfOk r (IsAnswerTo begin_event old new) → OnErr r (new ≡ old) → Applies begin_event old new r
       begin_lacks {r = r} seen over step same =
-          record { over = over; step = step; err = same; memory = at_error r (subst (MayLackMemory begin_event) seen begin_takes_memory) }
+          record { over = over; step = step; err = same; memory = on_any_err r (subst (MayLackMemory begin_event) seen begin_takes_memory) }
 
       -- and its start is not above the number of commits
       start_within : start ≤ length v.rows

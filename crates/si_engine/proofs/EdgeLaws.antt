@@ -1,13 +1,13 @@
 -- Each dependency of a lawful history has a question of its static edge, and a read-write dependency between concurrent
 -- instances is a vulnerable edge.
-use Rattle.std.proofs.Common.{◌≡◌, ℕ, ◌<◌, ◌≤◌, List, ◌⊎◌, inl, inr, ap, sym, arith}
+use Rattle.std.proofs.Common.{ℕ, List, ◌⊎◌, inl, inr, ap, arith}
 use Rattle.std.specs.Prelude.{is_some}
-use Rattle.std.proofs.lemmas.Bool.{cases_lt, cases_order}
 use Rattle.prog_tree.specs.declared.cell.Cell.{Cell}
 use Rattle.prog_tree.specs.Syntax.{DraftTree}
 use Rattle.prog_tree.specs.Table.{TableState}
 use Rattle.prog_check.specs.Paths.{paths_of}
 use Rattle.prog_paths.specs.StaticGraph.{QuestionNumbers, AsksReadWrite, AsksWriteRead, AsksWriteWrite, IsInOrder}
+use Rattle.prog_paths.proofs.Turned.{turned, in_order-or_turned}
 use Rattle.history_book.specs.Dependencies.{start_at}
 use Rattle.history_book.specs.History.{Instance}
 use Rattle.history_book.proofs.DependencyLaws.{Looks, Changes, DependsOn}
@@ -17,21 +17,6 @@ use Rattle.si_engine.proofs.GrowLaws.{Has, ChangesAt}
 use Rattle.si_engine.proofs.InsertLaws.{law_of_inserts, law_of_single_inserts}
 use Rattle.si_engine.proofs.AccessLaws.{HoldsLook, HoldsChange, Holds, looked, changed_in, grow_at, plain_at, question_of, asked}
 use Rattle.si_engine.proofs.MissedLaws.{depends_on, starts}
-
--- the question the other way round
-abbrev turned : QuestionNumbers → QuestionNumbers
-turned q = record { x = q.y; a = q.b; y = q.x; b = q.a }
-
--- of two accesses one stands first
-in_order : (q : QuestionNumbers) → IsInOrder q ⊎ IsInOrder (turned q)
-in_order q = go (cases_order q.x q.y) (cases_lt q.b q.a)
-  where
-    go : (q.x ≡ q.y) ⊎ ((q.x < q.y) ⊎ (q.y < q.x)) → (q.b < q.a) ⊎ (q.a ≤ q.b) →
-        IsInOrder q ⊎ IsInOrder (turned q)
-    go (inr (inl l)) _ = inl (inl l)
-    go (inr (inr l)) _ = inr (inl l)
-    go (inl e) (inl l) = inr (inr (sym e, omega arith))
-    go (inl e) (inr l) = inl (inr (e, l))
 
 module _ (set : DraftTree) (opening : TableState) (h : List Instance) (is : IsHistory set opening h) where
   module _ (i j : ℕ) (one : HasCommitted h i) (other : HasCommitted h j) (f : FollowsNode set opening h i) (g : FollowsNode set opening h j) where
@@ -56,7 +41,7 @@ module _ (set : DraftTree) (opening : TableState) (h : List Instance) (is : IsHi
 
         go : HoldsChange set opening h is i f c → HoldsChange set opening h is j g c →
             EdgeUnder f.v g.v (paths_of set) f.node g.node
-        go (t, inl k) (s, inl l) = cases (in_order q)
+        go (t, inl k) (s, inl l) = cases (in_order-or_turned q)
           where
             q : QuestionNumbers
             q = question_of set opening h is i j f g c t s

@@ -1,5 +1,5 @@
 -- The headline, from a serial order that fits the machine's history.
-use Rattle.std.proofs.Common.{◌≡◌, ℕ, zero, suc, ◌<◌, true, List, [], ◌∷◌, ◌++◌, length, refl, ap, sym, ◌∙◌, subst, arith, append_assoc}
+use Rattle.std.proofs.Common.{◌≡◌, ℕ, zero, suc, ◌<◌, true, List, [], ◌∷◌, ◌++◌, length, ap, sym, ◌∙◌, subst, arith, append_assoc}
 use Rattle.std.specs.Prelude.{slice_get, Some}
 use Rattle.std.specs.List.{zip}
 use Rattle.std.proofs.lemmas.Option.{slice_get_within}
@@ -9,6 +9,7 @@ use Rattle.prog_tree.specs.ChangeSet.{changed}
 use Rattle.prog_tree.specs.Evaluation.{Evaluation}
 use Rattle.prog_tree.specs.Syntax.{DraftTree}
 use Rattle.prog_tree.specs.Table.{TableState}
+use Rattle.prog_tree.proofs.Elements.{element_at}
 use Rattle.history_book.specs.Dependencies.{run_found, start_found, evaluation_at}
 use Rattle.history_book.specs.History.{Instance, eval_of, nth_instance, evaluation, state_after}
 use Rattle.history_book.specs.Serial.{is_each_once, Runs, Fits}
@@ -20,12 +21,6 @@ use Rattle.si_engine.specs.Headline.{Exchange, IsReadyWith, IsCommittedAs, commi
 use Rattle.si_engine.specs.Machine.{Machine, new_machine, replies_of, machine_after}
 use Rattle.si_engine.specs.View.{EngineView}
 use Rattle.si_engine.proofs.ToldLaws.{call_of_instance, IsTold, IsToldCommit, all_told}
-
--- the element at a place of a list
-there_is : {X : Type 0} (xs : List X) (k : ℕ) → k < length xs → (x : X) × (slice_get xs k ≡ Some x)
-there_is [] k inside = absurd (omega (arith, inside))
-there_is (x ∷ xs) zero inside = (x, refl)
-there_is (x ∷ xs) (suc k) inside = there_is xs k (omega (arith, inside))
 
 -- what holds of an engine that was opened
 pub at_start : {A : Type 0} (f : Draft → TableState → Machine → A) (e : EngineView) (given set : Draft) (rows : TableState) →
@@ -56,7 +51,7 @@ module _ (set : DraftTree) (opening : TableState) (events : List Event) (o : Out
 
     -- a commit by its place
     commit_at : (k : ℕ) → k < length history → (b : Instance) × (slice_get history k ≡ Some b) × IsToldCommit set opening said machine k b
-    commit_at k inside = let found = there_is history k inside in (found.0, found.1, told.commits k found.0 found.1)
+    commit_at k inside = let found = element_at history k inside in (found.0, found.1, told.commits k found.0 found.1)
 
     numbered : (i n : ℕ) → IsCommittedAs said i n → committed_at o.committed n ≡ Some i
     numbered i n was = ap (λ l. committed_at l n) committed_are ∙ told.numbered i n was

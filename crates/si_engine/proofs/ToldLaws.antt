@@ -14,7 +14,7 @@ use Rattle.prog_tree.specs.declared.deed.End.TheVariants as run
 use Rattle.prog_tree.specs.Evaluation.{Evaluation}
 use Rattle.prog_tree.specs.Syntax.{ProgramTree, DraftTree}
 use Rattle.prog_tree.specs.Table.{TableState}
-use Rattle.prog_tree.proofs.Elements.{get_left, get_seam}
+use Rattle.prog_tree.proofs.Elements.{get_left, get_seam, contains_itself, contains_only}
 use Rattle.version_store.specs.Clash.{clash_of}
 use Rattle.version_store.specs.Versions.{reclaimed}
 use Rattle.history_book.specs.History.{Instance, evaluation, commits_of}
@@ -28,14 +28,6 @@ use Rattle.si_engine.specs.Machine.{Active, Machine, new_machine, is_full, at_be
 use Rattle.si_engine.proofs.PlaceLaws.{get-set_same, get-set_other, same_number}
 
 -- ---- lists
-
--- the element of a list of one
-only : {X : Type 0} (x y : X) → Contains (x ∷ []) y → x ≡ y
-only x y (zero, inside, is) = is
-only x y (suc k, inside, is) = absurd (omega (arith, inside))
-
-itself : {X : Type 0} (x : X) → Contains (x ∷ []) x
-itself x = (0, omega arith, refl)
 
 -- a commit that was noted still is, behind one more
 committed_at-longer : (xs : List ℕ) (x y n : ℕ) → committed_at xs n ≡ Some y → committed_at (xs ++ x ∷ []) n ≡ Some y
@@ -105,14 +97,14 @@ module _ (draft : DraftTree) (opening : TableState) where
     kept y there = Contains-append_left said (x ∷ []) y there
 
     newest : Contains more x
-    newest = Contains-append_right said (x ∷ []) x (itself x)
+    newest = Contains-append_right said (x ∷ []) x (contains_itself x)
 
     told_before : (y : Exchange) → Contains more y → Contains said y ⊎ (x ≡ y)
     told_before y there = go (Contains-append_cases said (x ∷ []) y there)
       where
         go : Contains said y ⊎ Contains (x ∷ []) y → Contains said y ⊎ (x ≡ y)
         go (inl before) = inl before
-        go (inr now) = inr (only x y now)
+        go (inr now) = inr (contains_only x y now)
 
     still_begun : (i : ℕ) (c : Call) → IsBegunBy said i c → IsBegunBy more i c
     still_begun i c begun = (begun.0, begun.1, begun.2, kept _ begun.3)

@@ -13,27 +13,19 @@ use Rattle.prog_paths.specs.declared.accesses.questions.Question.{Question}
 use Rattle.prog_paths.specs.Questions.{asks, numbers_of, question_between, asked_by, asked_among, questions_of}
 use Rattle.prog_paths.specs.Places.{IsAt, placed_from, all_from, accesses_by, program_from}
 use Rattle.prog_paths.proofs.Questions.{placed, all_places_stand, if_yes, asked_by-append, asked_among-append}
-use Rattle.prog_tree.proofs.Elements.{IsMember, contains_from_member, member_left, member_right}
+use Rattle.prog_tree.proofs.Elements.{IsMember, contains_from_member, member_left, member_right, contains_only, contains_itself}
 use Rattle.prog_paths.proofs.Membership.{asks-from_Asks, in_node}
 use Rattle.conflict_pairs.specs.Verdicts.{TellsExposed}
 use Rattle.repair_laws.specs.declared.plan.Pair.{Pair}
 use Rattle.repair_laws.specs.Striking.{IsOfProgram}
 use Rattle.repair_laws.specs.Keys.{ExposedOf}
 use Rattle.si_repair.specs.Exposed.{IsPart, AreExposed, ArePlacesOf, ArePlacesOfPair, MayMiss, IsExposedTo, IsExposedOf, AreExposedAmong}
-use Rattle.si_repair.proofs.Members.{just_one}
 use Rattle.si_repair.proofs.Parts.{part-none, part-whole, part-append, part-contains, part-trans, part-among}
 
 -- ---- elements
 
 pub nothing : {A : Type 0} (x : A) → Contains [] x → ⊥
 nothing x c = let inside = c.1 in omega (arith, inside)
-
-pub only_one : {A : Type 0} (x y : A) → Contains (x ∷ []) y → x ≡ y
-only_one x y c = go (Contains-push_cases [] x y c)
-  where
-    go : Contains [] y ⊎ (x ≡ y) → x ≡ y
-    go (inl n) = absurd (nothing y n)
-    go (inr e) = e
 
 -- an element among the first ones is one of the list
 pub among_first : {A : Type 0} (n : ℕ) (xs : List A) (d x : A) → n < length xs → Contains (take (n + 1) xs) x → Contains (take n xs) x ⊎ (get_or xs n d ≡ x)
@@ -62,7 +54,7 @@ node_of n k [] p c = absurd (nothing p c)
 node_of n k (x ∷ xs) p c = go (Contains-append_cases (placed n k x ∷ []) (placed_from n (k + 1) xs) p c) (λ i. node_of n (k + 1) xs p i)
   where
     go : Contains (placed n k x ∷ []) p ⊎ Contains (placed_from n (k + 1) xs) p → (Contains (placed_from n (k + 1) xs) p → p.node ≡ n) → p.node ≡ n
-    go (inl i) later = ap (λ (q : Placed). q.node) (sym (only_one (placed n k x) p i))
+    go (inl i) later = ap (λ (q : Placed). q.node) (sym (contains_only (placed n k x) p i))
     go (inr i) later = later i
 
 -- an access is on a path of the program, which stands among the nodes from a number on
@@ -178,15 +170,15 @@ module _ (nodes : List Path) where
   pub among-exposed : (x y : Placed) → IsExposedTo nodes x y → AreExposedAmong nodes (x ∷ []) (y ∷ []) (question_between x y ∷ [])
   among-exposed x y e = record {
     part = subst (λ (l : List Question). IsPart (l ++ []) (question_between x y ∷ [])) (sym (if_yes (asks x y) (question_between x y) [] (asks-from_misses x y e.misses))) (part-whole (question_between x y ∷ []));
-    only = λ q c. record { first = x; second = y; in_firsts = just_one x; in_seconds = just_one y; exposed = e; is = sym (only_one (question_between x y) q c) };
-    each = λ v w i j h. subst (λ (p : Placed). Contains (question_between x y ∷ []) (question_between p w)) (only_one x v i) (subst (λ (p : Placed). Contains (question_between x y ∷ []) (question_between x p)) (only_one y w j) (just_one (question_between x y)));
+    only = λ q c. record { first = x; second = y; in_firsts = contains_itself x; in_seconds = contains_itself y; exposed = e; is = sym (contains_only (question_between x y) q c) };
+    each = λ v w i j h. subst (λ (p : Placed). Contains (question_between x y ∷ []) (question_between p w)) (contains_only x v i) (subst (λ (p : Placed). Contains (question_between x y ∷ []) (question_between x p)) (contains_only y w j) (contains_itself (question_between x y)));
   }
 
   pub among-unexposed : (x y : Placed) → (IsExposedTo nodes x y → ⊥) → AreExposedAmong nodes (x ∷ []) (y ∷ []) []
   among-unexposed x y n = record {
     part = part-none (asked_among (x ∷ []) (y ∷ []));
     only = λ q c. absurd (nothing q c);
-    each = λ v w i j h. absurd (n (subst (λ (p : Placed). IsExposedTo nodes p y) (sym (only_one x v i)) (subst (λ (p : Placed). IsExposedTo nodes v p) (sym (only_one y w j)) h)));
+    each = λ v w i j h. absurd (n (subst (λ (p : Placed). IsExposedTo nodes p y) (sym (contains_only x v i)) (subst (λ (p : Placed). IsExposedTo nodes v p) (sym (contains_only y w j)) h)));
   }
 
   pub first_moved : (xs ys zs : List Placed) (q : Question) → ((x : Placed) → Contains xs x → Contains ys x) → IsExposedOf nodes xs zs q → IsExposedOf nodes ys zs q

@@ -15,9 +15,9 @@ use Rattle.prog_paths.proofs.Order.{law_of_order}
 use Rattle.repair_laws.specs.declared.plan.Pair.{Pair}
 use Rattle.repair_laws.specs.Keys.{ExposedOf}
 use Rattle.si_repair.specs.Exposed.{IsPart, IsFirstOfExposed, IsFirstExposed, ArePlacesOf, IsExposedTo, AreExposedAmong}
-use Rattle.si_repair.proofs.Exposed.{nothing, only_one, asks-from_misses, read_of, change_of, misses_of, first_moved, more-firsts, in_firsts, in_seconds, of_pair-exposed, AreExposed-from_places}
-use Rattle.si_repair.proofs.Members.{just_one}
+use Rattle.si_repair.proofs.Exposed.{nothing, asks-from_misses, read_of, change_of, misses_of, first_moved, more-firsts, in_firsts, in_seconds, of_pair-exposed, AreExposed-from_places}
 use Rattle.si_repair.proofs.Parts.{part-none, part-whole, part-append, part-contains, part-among}
+use Rattle.prog_tree.proofs.Elements.{contains_only, contains_itself}
 
 -- ---- what rises
 
@@ -39,7 +39,7 @@ rises-across (x ∷ xs) ys p q r i j = go (Contains-append_cases (x ∷ []) xs p
   where
     go : Contains (x ∷ []) p ⊎ Contains xs p → (Contains xs p → IsBefore (numbers_of p) (numbers_of q)) → IsBefore (numbers_of p) (numbers_of q)
     go (inl k) later =
-        subst (λ (s : Question). IsBefore (numbers_of s) (numbers_of q)) (only_one x p k)
+        subst (λ (s : Question). IsBefore (numbers_of s) (numbers_of q)) (contains_only x p k)
         (All-contains (λ (s : Question). IsBefore (numbers_of x) (numbers_of s)) (xs ++ ys) q r.0 (Contains-append_right xs ys q j))
     go (inr k) later = later k
 
@@ -60,7 +60,7 @@ in_by first second seconds yes_asks c =
     (subst (λ (l : List Question). Contains l q) (sym (asked_by-append first before (second ∷ after)))
     (Contains-append_right (asked_by first before) (asked_by first (second ∷ after)) q
     (subst (λ (l : List Question). Contains l q) (sym (if_yes (asks first second) q (asked_by first after) yes_asks))
-    (Contains-append_left (q ∷ []) (asked_by first after) q (just_one q)))))
+    (Contains-append_left (q ∷ []) (asked_by first after) q (contains_itself q)))))
 
 in_among : (firsts seconds : List Placed) (first second : Placed) → asks first second ≡ true → Contains firsts first → Contains seconds second → Contains (asked_among firsts seconds) (question_between first second)
 in_among firsts seconds first second yes_asks c d =
@@ -120,7 +120,7 @@ module _ (nodes : List Path) (pair : Pair) (xs ys : List Placed) (firsts : ArePl
       own_rises = rises-part early (q ∷ rest) (rises-part (early ++ late) early rises early_part) h.part
 
       own : Contains (q ∷ rest) q
-      own = Contains-append_left (q ∷ []) rest q (just_one q)
+      own = Contains-append_left (q ∷ []) rest q (contains_itself q)
 
       q_early : Contains early q
       q_early = part-contains early (q ∷ rest) q h.part own
@@ -150,7 +150,7 @@ module _ (nodes : List Path) (pair : Pair) (xs ys : List Placed) (firsts : ArePl
           in_ys = in_seconds nodes pair xs ys firsts seconds e
 
           among : Contains (q ∷ []) (question_between x y) ⊎ Contains rest (question_between x y) → (e.question.question ≡ numbers_of q) ⊎ IsBefore (numbers_of q) e.question.question
-          among (inl k) = inl (sym (ap numbers_of (only_one q (question_between x y) k)))
+          among (inl k) = inl (sym (ap numbers_of (contains_only q (question_between x y) k)))
           among (inr k) = inr (All-contains (λ (later : Question). IsBefore (numbers_of q) (numbers_of later)) rest (question_between x y) own_rises.0 k)
 
           go : Contains (take n xs) x ⊎ Contains (drop n xs) x → (e.question.question ≡ numbers_of q) ⊎ IsBefore (numbers_of q) e.question.question

@@ -8,7 +8,7 @@ use Rattle.prog_paths.specs.Meeting.{CanMeet}
 use Rattle.prog_paths.specs.StaticGraph.{QuestionNumbers, AsksOf, AsksReadWrite, StaticEdge, IsExposed, IsVulnerable}
 use Rattle.prog_paths.specs.declared.accesses.questions.Question.{Question}
 use Rattle.prog_paths.specs.Questions.{Asks, numbers_of}
-use Rattle.prog_tree.proofs.Elements.{from_mapped}
+use Rattle.prog_tree.proofs.Elements.{from_mapped, contains_itself}
 use Rattle.prog_paths.proofs.Edges.{HasQuestion-weaker, EdgeOf-weaker, EdgeOf-inside}
 use Rattle.prog_paths.proofs.Membership.{law_of_listing}
 use Rattle.conflict_pairs.specs.declared.verdicts.Verdict.{Verdict}
@@ -20,7 +20,7 @@ use Rattle.robust_cert.specs.Accepted.{IsTold, IsToldApart, IsLeft, IsLeftVulner
 use Rattle.robust_cert.specs.Sharing.{Entry, entry_with}
 use Rattle.si_repair.specs.Findings.{IsHarmless, TellsEach}
 use Rattle.si_repair.specs.Certificates.{told_question, told_by, told_of}
-use Rattle.si_repair.proofs.Members.{just_one, told_one}
+use Rattle.si_repair.proofs.Members.{told_one}
 
 abbrev Meets : QuestionNumbers → Access → Access → Type 0
 Meets q mine theirs = CanMeet mine theirs
@@ -39,24 +39,24 @@ module _ (paths : List Path) (entries : List Entry) (q : QuestionNumbers) (mine 
   meets : (asked : Question) → numbers_of asked ≡ q → (v : Verdict) → ((x : Entry) → Contains (told_by asked v) x → Contains entries x) → IsRightOf paths q mine theirs v → (IsToldApart entries q → ⊥) → CanMeet mine theirs
   meets asked is (Apart chain) all_told r none =
       let e = entry_with (told_question asked) (reason.TheVariants.Apart chain) in
-      absurd (none (e, all_told e (just_one e), tt, is))
+      absurd (none (e, all_told e (contains_itself e), tt, is))
   meets asked is (Covered m t chains) all_told r none = r.can_meet
   meets asked is (Exposed sample) all_told r none = (mine_of sample, theirs_of sample, r.meets)
 
   exposed : (asked : Question) → numbers_of asked ≡ q → (v : Verdict) → ((x : Entry) → Contains (told_by asked v) x → Contains entries x) → IsRightOf paths q mine theirs v → AsksReadWrite mine.kind theirs.kind → (IsTold entries q → ⊥) → IsExposed paths q mine theirs
   exposed asked is (Apart chain) all_told r asks none =
       let e = entry_with (told_question asked) (reason.TheVariants.Apart chain) in
-      absurd (none (e, all_told e (just_one e), is))
+      absurd (none (e, all_told e (contains_itself e), is))
   exposed asked is (Covered m t chains) all_told r asks none =
       let e = entry_with (told_question asked) (reason.TheVariants.Cover m t chains) in
-      absurd (none (e, all_told e (just_one e), is))
+      absurd (none (e, all_told e (contains_itself e), is))
   exposed asked is (Exposed sample) all_told r asks none = ((mine_of sample, theirs_of sample, r.meets), r.uncovered asks)
 
   is_told : (asked : Question) → numbers_of asked ≡ q → (v : Verdict) → ((x : Entry) → Contains (told_by asked v) x → Contains entries x) → IsRightOf paths q mine theirs v → IsHarmless paths q mine theirs → IsTold entries q
   is_told asked is (Apart chain) all_told r h =
-      let e = entry_with (told_question asked) (reason.TheVariants.Apart chain) in (e, all_told e (just_one e), is)
+      let e = entry_with (told_question asked) (reason.TheVariants.Apart chain) in (e, all_told e (contains_itself e), is)
   is_told asked is (Covered m t chains) all_told r h =
-      let e = entry_with (told_question asked) (reason.TheVariants.Cover m t chains) in (e, all_told e (just_one e), is)
+      let e = entry_with (told_question asked) (reason.TheVariants.Cover m t chains) in (e, all_told e (contains_itself e), is)
   is_told asked is (Exposed sample) all_told r (inl apart) = absurd (apart (mine_of sample, theirs_of sample, r.meets))
   is_told asked is (Exposed sample) all_told r (inr covered) = absurd (r.uncovered covered.0 covered.1)
 

@@ -1,13 +1,10 @@
 -- Elements of lists, and what is told of a table's entries.
-use Rattle.std.proofs.Common.{zero, suc, List, [], ◌∷◌, refl, sym, subst, arith}
+use Rattle.std.proofs.Common.{zero, suc, List, [], ◌∷◌, sym, subst, arith}
 use Rattle.std.specs.Prelude.{Contains}
 use Rattle.std.proofs.lemmas.List.Elements.{Contains-append_left, Contains-append_right}
 use Rattle.conflict_pairs.specs.Table.{Judged}
 use Rattle.robust_cert.specs.Sharing.{Entry}
 use Rattle.si_repair.specs.Certificates.{told_by, told_of}
-
-pub just_one : {A : Type 0} (x : A) → Contains (x ∷ []) x
-just_one x = (zero, omega arith, refl)
 
 -- what is told of one of the entries is told
 pub told_one : (es : List Judged) (e : Judged) (x : Entry) → Contains es e → Contains (told_by e.question e.verdict) x → Contains (told_of es) x

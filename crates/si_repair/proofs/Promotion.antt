@@ -147,10 +147,6 @@ stops_nowhere draft plan passed n pair reason at stops = passed n pair reason (s
 
 -- ---- what was made or not
 
-pub none_then : {X : Type 0} (o : Option X) (P Q : Type 0) → (P → Q) → IfNone o P → IfNone o Q
-none_then None P Q more p = more p
-none_then (Some x) P Q more p = tt
-
 pub sound_with : (draft : DraftTree) (pairs : List Pair) (o : Option Draft) → is_some o ≡ true → IfSome o (λ s. IsPromoted draft pairs (draft_tree s))
     → IfSome o (λ s. IsSound (draft_tree s)) → IsSoundWith draft pairs
 sound_with draft pairs None some made sound = absurd (cc)

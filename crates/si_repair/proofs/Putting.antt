@@ -6,8 +6,8 @@ use Rattle.std.proofs.lemmas.Bool.{eqb-true}
 use Rattle.std.proofs.lemmas.List.Elements.{All-nil, All-cons}
 use Rattle.std.proofs.lemmas.List.{get_or-map, length-map, length-take-le, map-append, take_more}
 use Rattle.std.proofs.lemmas.Option.{slice_get-get_or, slice_get-map}
-use Rattle.prog_tree.specs.Syntax.{StatementTree, BlockTree, BlockEnd, Plain, block_from, ProgramTree, DraftTree}
-use Rattle.prog_tree.specs.Tree.{stmt_tree, with_stmts, stmts_tree, program_tree}
+use Rattle.prog_tree.specs.Syntax.{StatementTree, BlockTree, BlockEnd, Plain, ProgramTree, DraftTree}
+use Rattle.prog_tree.specs.Tree.{stmt_tree, stmts_tree, program_tree}
 use Rattle.prog_tree.specs.declared.stmt.Stmt.{Stmt}
 use Rattle.prog_tree.specs.declared.program.Program.{Program}
 use Rattle.prog_check.specs.declared.path.Path.{Path}
@@ -16,23 +16,13 @@ use Rattle.repair_laws.specs.declared.plan.NewTable.{NewTable}
 use Rattle.repair_laws.specs.declared.plan.Pair.{Pair}
 use Rattle.repair_laws.specs.Keys.{IsKeyOf}
 use Rattle.repair_laws.specs.Materialised.{first_of, second_of, is_one, keeps_for, in_front, count_params, params_of, with_front, all_with_front, HasKey, kept_columns}
-use Rattle.si_repair.proofs.Behind.{with_stmts-append}
+use Rattle.si_repair.proofs.Behind.{with_stmts-append, keeps-front}
 use Rattle.si_repair.specs.Front.{IsColumn, HasColumns, HaveColumns}
 
 -- ---- statements in front of a block
 
--- statements that mean these stand in front as these do
-front-is : (ss : List Stmt) (xs : List StatementTree) (rest : BlockTree) → map stmt_tree ss ≡ map Plain xs → with_stmts ss rest ≡ in_front xs rest
-front-is [] [] rest e = refl
-front-is [] (x ∷ xs) rest e = absurd cc
-front-is (s ∷ ss) [] rest e = absurd cc
-front-is (s ∷ ss) (x ∷ xs) rest e =
-    let here : stmt_tree s ≡ Plain x = cc in
-    let behind : map stmt_tree ss ≡ map Plain xs = cc in
-    λ i. block_from (here i) (front-is ss xs rest behind i)
-
 pub block_front : (front stmts : List Stmt) (xs : List StatementTree) → map stmt_tree front ≡ map Plain xs → stmts_tree (front ++ stmts) ≡ in_front xs (stmts_tree stmts)
-block_front front stmts xs e = with_stmts-append front stmts BlockEnd ∙ front-is front xs (stmts_tree stmts) e
+block_front front stmts xs e = with_stmts-append front stmts BlockEnd ∙ keeps-front front xs (stmts_tree stmts) e
 
 -- ---- programs
 

@@ -22,7 +22,8 @@ use Rattle.repair_laws.specs.declared.plan.Pair.{Pair}
 use Rattle.repair_laws.specs.Keys.{ExposedOf, IsForcedEqual, IsLeastForced, IsKeyOf}
 use Rattle.si_repair.specs.Exposed.{AreExposed, ArePlacesOf, AreExposedAmong}
 use Rattle.si_repair.specs.Key.{AreMissed, IsMissed, AreFactsOf, PutEqual, AreLeft, ForceEqual, IsEarlier, ArePairsRising, params_with, all_pairs, AreForced}
-use Rattle.si_repair.proofs.Exposed.{nothing, only_one, among_first, still_first, last_first, first_moved, of_pair-exposed, AreExposed-from_places}
+use Rattle.si_repair.proofs.Exposed.{nothing, among_first, still_first, last_first, first_moved, of_pair-exposed, AreExposed-from_places}
+use Rattle.prog_tree.proofs.Elements.{contains_only}
 
 -- ---- pairs in order
 
@@ -45,7 +46,7 @@ rising-front (z ∷ xs) x h = (((λ q c. h.0 q (Contains-append_left xs (x ∷ [
     before rest y c = go (Contains-append_cases (z ∷ []) xs y c)
       where
         go : Contains (z ∷ []) y ⊎ Contains xs y → IsEarlier y x
-        go (inl k) = subst (λ (r : ℕ × ℕ). IsEarlier r x) (only_one z y k) (h.0 x (Contains-push xs x))
+        go (inl k) = subst (λ (r : ℕ × ℕ). IsEarlier r x) (contains_only z y k) (h.0 x (Contains-push xs x))
         go (inr k) = rest y k
 
 rising-append : (xs ys : List (ℕ × ℕ)) → ArePairsRising xs → ArePairsRising ys → ((x y : ℕ × ℕ) → Contains xs x → Contains ys y → IsEarlier x y) → ArePairsRising (xs ++ ys)
@@ -228,7 +229,7 @@ moved nodes pair e q is = record { asked = subst (λ (r : QuestionNumbers). Asks
 pub missed_by : (nodes : List Path) (first : Placed) (seconds : List Placed) (qs : List Question) → IsAt nodes first → All (λ (p : Placed). IsAt nodes p) seconds → AreExposedAmong nodes (first ∷ []) seconds qs → All (λ (q : Question). IsMissed nodes q) qs
 missed_by nodes first seconds qs at all h k d lt =
     let b = h.only (get_or qs k d) (Contains-get_or qs k d lt) in
-    let at_first = subst (λ (p : Placed). IsAt nodes p) (only_one first b.first b.in_firsts) at in
+    let at_first = subst (λ (p : Placed). IsAt nodes p) (contains_only first b.first b.in_firsts) at in
     let at_second = All-contains (λ (p : Placed). IsAt nodes p) seconds b.second all b.in_seconds in
     let missed : AreMissed nodes (question_between b.first b.second) b.first.access b.second.access = record { asked = record { at_mine = at_first; at_theirs = at_second; table = b.exposed.misses.table }; kinds = b.exposed.misses.kinds } in
     (b.first.access, b.second.access, subst (λ (q : Question). AreMissed nodes q b.first.access b.second.access) (sym b.is) missed)

@@ -11,6 +11,7 @@ use Rattle.prog_tree.specs.declared.cell.Cell.{Cell}
 use Rattle.prog_tree.specs.declared.cell.Region.{Region}
 use Rattle.prog_tree.specs.Table.{cell_cmp, is_in, lies_between}
 use Rattle.prog_tree.specs.Corners.{is_between, AreCellsOf}
+use Rattle.prog_tree.proofs.CornerLaws.{int_le-from_not_lt}
 
 -- ---- comparisons column by column
 
@@ -49,14 +50,8 @@ int_asym (pos a) (negsuc b) h = absurd (cc)
 int_asym (negsuc a) (pos b) h = refl
 int_asym (negsuc a) (negsuc b) h = let fact : leb (suc b) a ≡ true = h in grind (arith, nat_tests)
 
-int_not_above : (x y : ℤ) → int_lt y x ≡ false → int_le x y ≡ true
-int_not_above (pos a) (pos b) h = let fact : leb (suc b) a ≡ false = h in grind (arith, nat_tests)
-int_not_above (pos a) (negsuc b) h = absurd (cc)
-int_not_above (negsuc a) (pos b) h = refl
-int_not_above (negsuc a) (negsuc b) h = let fact : leb (suc a) b ≡ false = h in grind (arith, nat_tests)
-
 int_at_most : (x y : ℤ) → is_gt (int_cmp x y) ≡ false → int_le x y ≡ true
-int_at_most x y h = int_not_above x y (go (int_lt x y) (int_lt y x) refl refl)
+int_at_most x y h = int_le-from_not_lt x y (go (int_lt x y) (int_lt y x) refl refl)
   where
     go : (b d : Bool) → int_lt x y ≡ b → int_lt y x ≡ d → int_lt y x ≡ false
     go true d less more = int_asym x y less
@@ -64,7 +59,7 @@ int_at_most x y h = int_not_above x y (go (int_lt x y) (int_lt y x) refl refl)
     go false false less more = more
 
 int_at_least : (x y : ℤ) → is_lt (int_cmp x y) ≡ false → int_le y x ≡ true
-int_at_least x y h = int_not_above y x (go (int_lt x y) refl)
+int_at_least x y h = int_le-from_not_lt y x (go (int_lt x y) refl)
   where
     go : (b : Bool) → int_lt x y ≡ b → int_lt x y ≡ false
     go true less = let never : is_lt (cond (int_lt x y) Less (cond (int_lt y x) Greater Equal)) ≡ true = rw less refl in absurd (cc)

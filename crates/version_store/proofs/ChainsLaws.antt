@@ -1,6 +1,6 @@
 -- Laws of one written chain.
 use Rattle.std.proofs.Common.{◌≡◌, ◌∙◌, Bool, true, false, cond, if◌then◌else◌, refl, ap, subst}
-use Rattle.std.specs.Prelude.{Option, Some, IsSome, Result, Ok, Err, OnErr, unwrap_or}
+use Rattle.std.specs.Prelude.{Option, Some, IsSome, unwrap_or}
 use Rattle.prog_tree.specs.declared.cell.Cell.{Cell}
 use Rattle.prog_tree.specs.Table.{Cells, at_cell, is_same_cell}
 use Rattle.prog_tree.proofs.TableStates.{cell_is}
@@ -30,8 +30,3 @@ same_chains m n cell h c = h c ∙ go (is_same_cell cell c)
     go : (b : Bool) → (if b then chain_at m c else chain_at m c) ≡ chain_at m c
     go true = refl
     go false = refl
-
--- what holds anyway holds at an error
-pub at_error : {T E P : Type 0} (r : Result T E) → P → OnErr r P
-at_error (Ok x) p = tt
-at_error (Err e) p = p

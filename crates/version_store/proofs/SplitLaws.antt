@@ -6,7 +6,7 @@ use Rattle.std.specs.declared.cmp.Ordering.TheVariants.{Less, Equal, Greater}
 use Rattle.std.specs.List.{AllByRecursion}
 use Rattle.std.specs.List.Sorted.{IsStrictlySortedBy}
 use Rattle.std.specs.Ordering.{nat_cmp, int_cmp, ordering_then}
-use Rattle.std.proofs.lemmas.Bool.{eqb-true, and_parts}
+use Rattle.std.proofs.lemmas.Bool.{eqb-true, and_parts, false_from_ne_true}
 use Rattle.std.proofs.lemmas.Int.{ints, by_lt_z}
 use Rattle.std.proofs.lemmas.Map.Keys.{sorted_head, sorted_tail}
 use Rattle.prog_tree.specs.declared.cell.Cell.{Cell}
@@ -98,13 +98,9 @@ not_before t c d here there lower less = absurd (clash (sym greater ∙ less))
 table_of : (r : Region) (c : Cell) → is_in r c ≡ true → r.table ≡ c.table
 table_of r c h = eqb-true _ _ (and_parts (r.table == c.table) _ h).0
 
-none_of : (b : Bool) → (b ≡ true → ⊥) → b ≡ false
-none_of true h = absurd (h refl)
-none_of false h = refl
-
 -- behind a cell of a region that lies behind a number no cell lies before it
 none_up_to : (r : Region) (m : ℤ) (c d : Cell) → is_in r c ≡ true → m <ℤ c.first → cell_cmp c d ≡ Less → is_in (up_to r m) d ≡ false
-none_up_to r m c d inside above less = none_of (is_in (up_to r m) d) (λ h.
+none_up_to r m c d inside above less = false_from_ne_true (is_in (up_to r m) d) (λ h.
     by_lt_z m d.first
     (λ high. let out = sym (up_none r m d high) ∙ h in absurd (cc))
     (λ low. not_before r.table c d (table_of r c inside) (table_of (up_to r m) d h) (omega (arith, ints, low, above)) less))

@@ -1,11 +1,11 @@
 //! What is found in the chain of a cell, and the rows that it adds to others.
 ghost use Rattle.std.specs.Prelude.{◌≡◌, ◌↔◌, ◌++◌, Some, OnOk};
-ghost use Rattle.prog_tree.specs.Table.{TableState, is_cell_among, lies_between, row_held};
+ghost use Rattle.prog_tree.specs.Table.{TableState, is_cell_among, row_held};
 ghost use Rattle.version_store.specs.Reading.{RisesFrom, value_at};
 ghost use Rattle.version_store.specs.Regions.{seen_between, left_between, with_found};
 
 use crate::chain::VersionChain;
-use prog_tree::{Cell, Region, RisingCells, RowWalk, Rows};
+use prog_tree::{Cell, Region, RisingCells, RowWalk, Rows, lies_between};
 use std::alloc::AllocError;
 
 /// Adds the row of a cell after the first `start` commits, where it has one.
@@ -22,13 +22,6 @@ pub fn add_found(
         rows.insert(*cell, value)?;
     }
     Ok(())
-}
-
-/// Whether a number lies between two ends, or is one of them.
-pub fn lies_between(low: i64, x: i64, high: i64) -> bool
-    ensures { result ≡ lies_between low x high }
-{
-    low <= x && x <= high
 }
 
 /// What is seen in a region of a cell between its corners. There the second column alone tells

@@ -4,10 +4,9 @@ ghost use Rattle.version_store.specs.Blocks.{Covers, HoldsIn, InStretch, SeesIn}
 ghost use Rattle.version_store.specs.Reading.{RisesFrom};
 
 use crate::chain::VersionChain;
-use crate::found::lies_between;
 use crate::version::Version;
 use crate::versions::count_within;
-use prog_tree::{Cell, Region};
+use prog_tree::{Cell, Region, lies_between};
 
 /// What a cell holds after each number of commits from `since` on and below `till`.
 #[derive(Clone, Copy, Debug)]

@@ -1,15 +1,12 @@
-use Rattle.std.proofs.Common.{◌≡◌, ◌<◌, List, ℕ, Option, Some, None, IfNone, refl, length, get_or, slice_get}
+use Rattle.std.proofs.Common.{◌≡◌, ◌<◌, List, ℕ, Option, Some, refl, length, get_or, slice_get}
 use Rattle.std.proofs.lemmas.Option.{IfSome_then, slice_get_past, slice_get_read}
 use Rattle.analysis_words.specs.Nodes.HasNoAccess.{NoNode, NoneOfNode, NoStatement}
 use Rattle.analysis_words.proofs.shown.access_place.Goals as goal
+use Rattle.prog_tree.proofs.Outcomes.{none_then}
 
 -- what is read of a list is its element
 read_at : {X : Type 0} (xs ys : List X) (i : ℕ) (x : X) → xs ≡ ys → i < length xs → x ≡ get_or xs i x → slice_get ys i ≡ Some x
 read_at xs ys i x same within is = rw (← same) (slice_get_read xs (length xs) i x refl within is)
-
-none_then : {X : Type 0} (o : Option X) (P Q : Type 0) → (P → Q) → IfNone o P → IfNone o Q
-none_then None P Q more p = more p
-none_then (Some x) P Q more p = tt
 
 pub returns-in_err-path-clause-none : goal.returns-in_err-path-clause-none
 returns-in_err-path-clause-none c = rw c.from_residual.ensures (NoNode (slice_get_past _ _ (c.in_err-path.ensures.lookup.3)))

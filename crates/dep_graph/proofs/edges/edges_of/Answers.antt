@@ -6,8 +6,8 @@ use Rattle.conflict_pairs.specs.Classed.{ClassAnswer}
 use Rattle.dep_graph.specs.Edges.{EntersAnswer}
 use Rattle.dep_graph.proofs.Answering.{edges-told, vulnerable-told}
 use Rattle.dep_graph.proofs.Entering.{GiveAnswers, GiveAnswers-begun, GiveAnswers-more}
-use Rattle.dep_graph.proofs.Entries.{element_at}
 use Rattle.dep_graph.proofs.edges.edges_of.Goals as goal
+use Rattle.prog_tree.proofs.Elements.{element_at}
 
 pub loop-n-init : goal.loop-n-init
 loop-n-init c =

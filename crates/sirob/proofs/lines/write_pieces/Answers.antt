@@ -1,16 +1,12 @@
-use Rattle.std.proofs.Common.{Result, Ok, Err, OnErr, rules}
+use Rattle.std.proofs.Common.{rules}
 use Rattle.robust_cert.specs.Pieces.{text_left}
 use Rattle.sirob.proofs.PieceLaws.{first_taken, first_lost, next_taken, next_lost, all_taken}
 use Rattle.sirob.proofs.lines.write_pieces.Goals as goal
-
--- what is so anyway is so of an `Err`
-anyway : {T E P : Type 0} (r : Result T E) → P → OnErr r P
-anyway (Ok _) p = tt
-anyway (Err _) p = p
+use Rattle.prog_tree.proofs.Outcomes.{on_any_err}
 
 pub returns-in_err-write_whole-clause-first : goal.returns-in_err-write_whole-clause-first
 returns-in_err-write_whole-clause-first g c =
-    anyway c.from_residual.result
+    on_any_err c.from_residual.result
     (first_lost (g.K.Sink.taken c.args.sink.now) (g.K.Sink.taken c.write_whole.new.sink) c.args.text.now c.piece.result.now c.as_bytes.result.now
     c.piece.ensures c.as_bytes.ensures.value c.in_err-write_whole.ensures.first)
 
@@ -35,7 +31,7 @@ loop-text-smaller g c = c.advance_par.ensures.fewer (c.has_more.ensures.more (se
 
 pub returns-in_err-write_whole-2-clause-first : goal.returns-in_err-write_whole-2-clause-first
 returns-in_err-write_whole-2-clause-first g c =
-    anyway c.from_residual-in_err-write_whole-2.result
+    on_any_err c.from_residual-in_err-write_whole-2.result
     (next_lost (g.K.Sink.taken c.args.sink.now) (g.K.Sink.taken c.loop-text.sink) (g.K.Sink.taken c.write_whole-in-loop-text.new.sink) c.loop-text.text c.advance_par.new.self c.piece-in-loop-text.result.now c.as_bytes-in-loop-text.result.now (text_left c.args.text.now)
     c.advance_par.ensures.text c.piece-in-loop-text.ensures c.as_bytes-in-loop-text.ensures.value c.loop-text.invariant.given c.in_err-write_whole-2.ensures.first)
 

@@ -1,13 +1,9 @@
-use Rattle.std.proofs.Common.{◌≡◌, ◌-◌, ℕ, List, ◌∷◌, length, take, drop, sym, subst, rules, arith}
-use Rattle.std.proofs.lemmas.Grind.{common_steps}
+use Rattle.std.proofs.Common.{◌≡◌, ◌-◌, ℕ, List, ◌∷◌, length, take, drop, sym, subst, rules}
 use Rattle.sirob.specs.Parts.{parts_of, full_lines_of}
 use Rattle.sirob.proofs.PartLemmas.{before_parts-nil, parts_of-some, one_more_line}
 use Rattle.sirob.proofs.QuietLines.{whole_part}
 use Rattle.sirob.proofs.parts.first_part.Goals as goal
-
--- a slice from m on is what stands behind the first m
-tail : (xs : List ℕ) (m : ℕ) → take (length xs - m) (drop m xs) ≡ drop m xs
-tail xs m = grind (arith, common_steps)
+use Rattle.prog_tree.proofs.Elements.{take_all-drop}
 
 pub returns-then-not-has_percent-clause-parts : goal.returns-then-not-has_percent-clause-parts
 returns-then-not-has_percent-clause-parts c = whole_part c.args.bytes.now (c.has_percent.ensures c.if-not-has_percent.true)
@@ -20,7 +16,7 @@ loop-at-init c = record {
 
 pub loop-at-preserved : goal.loop-at-preserved
 loop-at-preserved c =
-    let rest = tail c.args.bytes.now c.loop-at.at in
+    let rest = take_all-drop c.args.bytes.now c.loop-at.at in
     let line = c.first_line-line.result.now in
     let front = c.first_line-line.ensures.front in
     let first = c.first_line-line.ensures.first in record {

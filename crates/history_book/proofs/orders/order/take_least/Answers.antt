@@ -1,9 +1,10 @@
 use Rattle.std.proofs.Common.{◌≡◌, [], ◌∙◌, length, ap, subst, sym, arith}
 use Rattle.std.proofs.lemmas.Option.{IfSome_then}
 use Rattle.history_book.specs.Placing.{free_from, all_free, AreBelow}
-use Rattle.history_book.proofs.FreeLaws.{passed-first, passed-low, passed-left, next-first, no-numbers, none_then}
+use Rattle.history_book.proofs.FreeLaws.{passed-first, passed-low, passed-left, next-first, no-numbers}
 use Rattle.history_book.proofs.NumberLists.{none-left}
 use Rattle.history_book.proofs.orders.order.take_least.Goals as goal
+use Rattle.prog_tree.proofs.Outcomes.{none_then}
 
 pub returns-in-Some-clause-within : goal.returns-in-Some-clause-within
 returns-in-Some-clause-within c =

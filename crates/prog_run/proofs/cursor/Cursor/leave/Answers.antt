@@ -1,29 +1,26 @@
 use Rattle.std.proofs.Common.{◌≡◌, [], map, arith, ap, sym, refl, ◌∙◌}
-use Rattle.std.specs.Prelude.{Result, Ok, Err, OnErr, option_map}
+use Rattle.std.specs.Prelude.{option_map}
 use Rattle.std.proofs.lemmas.Grind.{common_steps}
 use Rattle.std.proofs.lemmas.List.{map-append}
 use Rattle.prog_tree.specs.Tree.{stmts_tree}
+use Rattle.prog_tree.proofs.Outcomes.{on_any_err}
 use Rattle.prog_run.specs.Todo.{named}
 use Rattle.prog_run.specs.Cursor.{open_tree, cursor_tree, turn_tree}
 use Rattle.prog_run.proofs.TodoLemmas.{turn_moves, turn_waits, block_moves, block_over}
 use Rattle.prog_run.proofs.cursor.Cursor.leave.Goals as goal
 
-on_err : {T E P : Type 0} (r : Result T E) → P → OnErr r P
-on_err (Ok x) holds = tt
-on_err (Err e) holds = holds
-
 pub returns-in_err-note_turn-clause-err : goal.returns-in_err-note_turn-clause-err
 returns-in_err-note_turn-clause-err c =
     let p = c.args.progress.now in
     let old = cursor_tree c.args.self.now in
-    on_err c.from_residual.result
+    on_any_err c.from_residual.result
     (turn_waits old old p c.note_turn.new.progress (ap stmts_tree c.requires) refl (c.in_err-note_turn.ensures.err ∙ (λ i. record p { env = c.cut.ensures i }))).0
 
 pub returns-in_err-note_turn-clause-err_store : goal.returns-in_err-note_turn-clause-err_store
 returns-in_err-note_turn-clause-err_store c =
     let p = c.args.progress.now in
     let old = cursor_tree c.args.self.now in
-    on_err c.from_residual.result
+    on_any_err c.from_residual.result
     (turn_waits old old p c.note_turn.new.progress (ap stmts_tree c.requires) refl (c.in_err-note_turn.ensures.err ∙ (λ i. record p { env = c.cut.ensures i }))).1
 
 pub returns-in-Some-clause-step : goal.returns-in-Some-clause-step

@@ -1,14 +1,14 @@
 use Rattle.std.proofs.Common.{ℕ, List, [], ◌∷◌, ◌++◌, ap, ◌∙◌}
 use Rattle.robust_cert.specs.declared.entries.Reason.{Reason}
 use Rattle.robust_cert.specs.Sharing.{Entry, entry_with, entries_told}
-use Rattle.robust_cert.proofs.Fitting.{on_err_anyway}
 use Rattle.robust_cert.proofs.Shared.{told-longer, told-own}
 use Rattle.robust_cert.proofs.entries.Entries.push.Goals as goal
+use Rattle.prog_tree.proofs.Outcomes.{on_any_err}
 
 pub returns-in_err-push-2-clause-err : goal.returns-in_err-push-2-clause-err
 returns-in_err-push-2-clause-err c =
     let rs = c.self.inside.reasons.items in
-    on_err_anyway c.from_residual-in_err-push-2.result
+    on_any_err c.from_residual-in_err-push-2.result
     (ap (λ (l : List Reason). entries_told l c.push-2.new.self.items) c.in_ok-push.ensures.items
     ∙ ap (entries_told (rs ++ c.args.reason ∷ [])) c.in_err-push-2.ensures.items
     ∙ told-longer rs c.args.reason c.self.inside.told.items c.self.invariant

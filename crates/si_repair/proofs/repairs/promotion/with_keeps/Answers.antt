@@ -3,12 +3,13 @@ use Rattle.std.proofs.lemmas.Option.{IfSome_then}
 use Rattle.std.proofs.lemmas.Result.{IfOk-weaker}
 use Rattle.prog_tree.specs.Syntax.{DraftTree}
 use Rattle.prog_tree.specs.Tree.{draft_tree}
+use Rattle.prog_tree.proofs.Outcomes.{none_then}
 use Rattle.prog_check.specs.declared.path.Path.{Path}
 use Rattle.repair_laws.specs.Promoted.{MarksExposed, promoted_by}
 use Rattle.si_repair.specs.Checking.{IsRefused}
 use Rattle.si_repair.specs.Promotion.{pairs_of, HasItsQuestions}
 use Rattle.si_repair.specs.Marks.{is_marked}
-use Rattle.si_repair.proofs.Promotion.{has_questions, none_then}
+use Rattle.si_repair.proofs.Promotion.{has_questions}
 use Rattle.si_repair.proofs.repairs.promotion.with_keeps.Goals as goal
 
 pub marked_statements-requires : goal.marked_statements-requires

@@ -1,8 +1,8 @@
 use Rattle.version_store.specs.Touches.{touches_left}
-use Rattle.version_store.proofs.ChainsLaws.{at_error}
 use Rattle.version_store.proofs.Walks.{one_more_touch, commit_added, commit_grown}
 use Rattle.version_store.proofs.chains.Chains.add_touches.Goals as goal
 use Rattle.version_store.proofs.TouchLaws.{touches_of}
+use Rattle.prog_tree.proofs.Outcomes.{on_any_err}
 
 pub loop-cell-preserved : goal.loop-cell-preserved
 loop-cell-preserved c =
@@ -12,7 +12,7 @@ loop-cell-preserved c =
 
 pub returns-in_err-add-clause-err : goal.returns-in_err-add-clause-err
 returns-in_err-add-clause-err c =
-    at_error c.from_residual.result
+    on_any_err c.from_residual.result
     (commit_grown c.args.number c.args.changes.now (touches_left c.loop-cell.cell-iterator.changed c.loop-cell.cell-iterator.kept) c.args.self.now c.loop-cell.self c.add.new.self
     c.loop-cell.invariant c.in_err-add.ensures.err)
 
