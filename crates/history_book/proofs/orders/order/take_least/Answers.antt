@@ -31,8 +31,9 @@ returns-in-None-clause-least c =
 pub returns-in-None-clause-none : goal.returns-in-None-clause-none
 returns-in-None-clause-none c =
     let none = no-numbers c.args.passed.now.keys (none-left (length c.args.passed.now.keys) c.in-None.ensures.variant.1) in
-    none_then c.next_free.result (free_from c.args.waits.now c.args.next ≡ []) (all_free c.args.passed.now.keys c.args.waits.now c.args.next ≡ []) c.next_free.ensures.none
+    none_then c.next_free.result (free_from c.args.waits.now c.args.next ≡ []) (all_free c.args.passed.now.keys c.args.waits.now c.args.next ≡ [])
     (λ e. ap (λ ns. all_free ns c.args.waits.now c.args.next) none ∙ e)
+    c.next_free.ensures.none
 
 pub returns-in-None-clause-passed : goal.returns-in-None-clause-passed
 returns-in-None-clause-passed c = subst (AreBelow c.args.next) (sym c.in-None.ensures.unchanged) c.requires.passed
