@@ -58,9 +58,9 @@ impl Play<u8, Holding> for Looks {
 }
 
 // Gives draws to a new pass, G many. The numbers stay.
-pub struct Gives<G: Amount>(PhantomData<G>);
+pub struct GivesAway<G: Amount>(PhantomData<G>);
 
-impl<G: Amount> Split<Holding> for Gives<G> {
+impl<G: Amount> Split<Holding> for GivesAway<G> {
     ghost use Rattle.std.specs.Prelude.{◌-◌, []};
     ghost use Rattle.job_counter.specs.Holdings.{holding};
 

@@ -7,7 +7,7 @@ ghost use Rattle.std.specs.Prelude.{IfSome, IfNone, IsNone};
 
 mod holding;
 
-use crate::holding::{Account, Amount, Draws, Gives, Holding, Looks, Together};
+use crate::holding::{Account, Amount, Draws, GivesAway, Holding, Looks, Together};
 use atomic_table::{Seat, Table};
 use std::alloc::{AllocError, Global};
 use std::marker::Brand;
@@ -120,7 +120,7 @@ impl Counter {
         ensures given { holding_of result.1 ≡ holding give [] }
     {
         let Pass { left, mut seat } = pass;
-        let other = self.table.shared.split_seat::<Gives<G>>(&mut seat);
+        let other = self.table.shared.split_seat::<GivesAway<G>>(&mut seat);
         let kept = Pass {
             left: left - give,
             seat,
