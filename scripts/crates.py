@@ -1,4 +1,15 @@
-"""The crates of the repository, as crates.txt has them, and the memory for their checks."""
+"""The crates of the repository, as crates.txt has them, the toolchain, and how many checks run side by side."""
+import os
+import shutil
+import sys
+
+
+def kit():
+    """Returns the toolchain's folder, by its command `rt`."""
+    rt = shutil.which("rt")
+    if rt is None:
+        sys.exit("the toolchain's command rt is not on the path")
+    return os.path.dirname(os.path.dirname(os.path.realpath(rt)))
 
 
 def lines_of_crates(root):
@@ -26,3 +37,11 @@ def free_memory():
     """Returns the bytes that are free, with what the system keeps of files, which it gives back."""
     with open("/proc/meminfo", encoding="ascii") as lines:
         return next(int(line.split()[1]) for line in lines if line.startswith("MemAvailable")) * 1024
+
+
+def lanes(memory):
+    """Returns how many go side by side that take so many bytes each: as many as there are cores, and as memory holds;
+    or as many as RT_JOBS says."""
+    asked = os.environ.get("RT_JOBS", "")
+    fit = min(len(os.sched_getaffinity(0)), free_memory() // memory)
+    return int(asked) if asked.isdigit() and int(asked) else max(1, fit)

@@ -6,9 +6,8 @@
 #define _GNU_SOURCE
 #include <dlfcn.h>
 #include <errno.h>
-#include <fcntl.h>
-#include <stdlib.h>
-#include <unistd.h>
+
+#include "tell.h"
 
 struct port {
   const char *name;
@@ -18,14 +17,6 @@ struct port {
 
 static struct port ports[] = {{"READ_FAILS", -1, 0}, {"WRITE_FAILS", -1, 0}, {"SAID_FAILS", -1, 0}};
 
-/* Makes the file that tells of the failure. */
-static void tell(void) {
-  const char *path = getenv("FAILED");
-  if (!path) return;
-  int file = open(path, O_CREAT | O_WRONLY, 0600);
-  if (file >= 0) close(file);
-}
-
 static int has_failed(int number) {
   struct port *port = &ports[number];
   if (port->fails < 0) {
@@ -33,7 +24,7 @@ static int has_failed(int number) {
     port->fails = text ? atol(text) : 0;
   }
   if (port->fails == 0 || ++port->calls != port->fails) return 0;
-  tell();
+  tell("FAILED");
   errno = EIO;
   return 1;
 }

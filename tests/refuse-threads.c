@@ -3,28 +3,19 @@
 #define _GNU_SOURCE
 #include <dlfcn.h>
 #include <errno.h>
-#include <fcntl.h>
 #include <pthread.h>
 #include <stdatomic.h>
-#include <stdlib.h>
-#include <unistd.h>
+
+#include "tell.h"
 
 static atomic_long asked;
-
-/* Makes the file that tells of the refusal. */
-static void tell(void) {
-  const char *path = getenv("REFUSED_THREAD");
-  if (!path) return;
-  int file = open(path, O_CREAT | O_WRONLY, 0600);
-  if (file >= 0) close(file);
-}
 
 int pthread_create(pthread_t *thread, const pthread_attr_t *how, void *(*body)(void *), void *given) {
   static int (*real)(pthread_t *, const pthread_attr_t *, void *(*)(void *), void *);
   if (!real) real = dlsym(RTLD_NEXT, "pthread_create");
   const char *text = getenv("REFUSE_THREAD");
   if (text && ++asked == atol(text)) {
-    tell();
+    tell("REFUSED_THREAD");
     return EAGAIN;
   }
   return real(thread, how, body, given);

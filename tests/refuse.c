@@ -5,21 +5,12 @@
 #define _GNU_SOURCE
 #include <dlfcn.h>
 #include <errno.h>
-#include <fcntl.h>
 #include <stdatomic.h>
-#include <stdlib.h>
-#include <unistd.h>
+
+#include "tell.h"
 
 static atomic_long wanted = -1;
 static atomic_long asked;
-
-/* Makes the file that tells of the refusal. */
-static void tell(void) {
-  const char *path = getenv("REFUSED");
-  if (!path) return;
-  int file = open(path, O_CREAT | O_WRONLY, 0600);
-  if (file >= 0) close(file);
-}
 
 static int is_refused(void) {
   if (wanted < 0) {
@@ -28,7 +19,7 @@ static int is_refused(void) {
   }
   long number = wanted;
   if (number == 0 || ++asked != number) return 0;
-  tell();
+  tell("REFUSED");
   errno = ENOMEM;
   return 1;
 }

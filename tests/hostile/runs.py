@@ -1,6 +1,6 @@
 """A plain engine: what a script of a set has to print, written from the definitions and from nothing of the program.
 
-`told_of_run` answers the lines of `run`. It holds whole states, one for each commit, and knows all statements.
+`is_run_told` compares what `run` answered. It holds whole states, one for each commit, and knows all statements.
 """
 from texts import GREATEST, LEAST, Fault
 
@@ -336,5 +336,5 @@ def is_run_told(set_of_text, script, told):
     if order is not None:
         lines.append(" ".join(["order", *map(str, order)]))
         return (status, output) == (0, "".join(f"{line}\n" for line in lines).encode())
-    *first, last = output.decode(errors="replace").splitlines()
+    *first, last = output.decode(errors="replace").splitlines() or [""]
     return (status, first) == (1, lines) and last.startswith("cycle ") and engine.is_cycle(last)

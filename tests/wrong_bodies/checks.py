@@ -6,17 +6,15 @@ failure reaches from one function to another.
 """
 import os
 import re
-import shutil
 import subprocess
 import tempfile
 import time
 from dataclasses import dataclass, field
 
 from batches import all_functions
-from crates import below, uses_of_crates
-from functions import functions_of
+from crates import below, kit, uses_of_crates
 
-KIT = os.path.dirname(os.path.dirname(os.path.realpath(shutil.which("rt"))))
+KIT = kit()
 
 # an error of a proof file that only misses what the edit took away, which says little of the contract
 OF_NAMES = re.compile(

@@ -1,9 +1,8 @@
 """Draws the dependencies of a cycle as arrows between lanes, each with its words where there is room."""
 from pictures.history import columns_of
 from pictures.lanes_layout import MARGIN, lane_name
-from pictures.svg import CODE
+from pictures.svg import CODE, RED
 
-RED = "#b00000"
 # an arrow's dashes tell its kind
 DASHES = {"saw": None, "missed": "8 5", "both": "2 4", "": "12 4 2 4"}
 # more arrows than these have no words

@@ -3,9 +3,7 @@ from pictures.arrows import draw_dependencies
 from pictures.lanes_layout import MARGIN, lane_name, lay_out
 from pictures.marks import ENDINGS, commit_width, draw_ending, draw_key, draw_mark
 from pictures.order_drawing import draw_cycle, draw_order
-from pictures.svg import CODE, Drawing
-
-RED = "#b00000"
+from pictures.svg import CODE, RED, Drawing
 
 
 def counted(count, noun, many=None):

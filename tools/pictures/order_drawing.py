@@ -1,7 +1,7 @@
 """Draws a serial order of commits as a row, or why a cycle has none."""
-from pictures.arrows import DASHES, RED
+from pictures.arrows import DASHES
 from pictures.marks import commit_width, draw_commit
-from pictures.svg import CODE
+from pictures.svg import CODE, RED
 
 # more commits of an order than these are not shown one by one, and not more of a cycle
 MOST, MOST_OF_CYCLE = 400, 60

@@ -1,12 +1,12 @@
 """Draws a refusal: two edges in a row that may be missed, and the way back that closes the circle."""
-from pictures.svg import BOLD, CODE, PLAIN, Drawing
+from pictures.svg import BOLD, CODE, PLAIN, RED, Drawing
 
 TITLE = "Refused: a run of this set may have no serial order"
 # how high boxes and edges are, where the circle begins, and where an edge leaves its box
 BOX, EDGE, STEP, TOP, LEFT, INDENT = 46, 112, 72, 60, 24, 34
 # the place of the way back, right of LEFT, and the longest statement that is shown whole
 BACK, LONGEST = 40, 72
-MISSED = {"stroke": "#b00000", "stroke_width": 2.5, "stroke_dasharray": "8 5", "marker_end": "url(#red)"}
+MISSED = {"stroke": RED, "stroke_width": 2.5, "stroke_dasharray": "8 5", "marker_end": "url(#red)"}
 BEFORE = {"stroke_width": 2.5, "marker_end": "url(#black)"}
 
 
@@ -116,7 +116,7 @@ def draw_refusal(refusal):
     names = [it.call() for it in refusal.nodes]
     front = f"{names[0]} may miss a change of {names[1]}, and that may miss one of {names[2]}"
     drawing = Drawing(TITLE, " ".join(sentence(it) for it in (front, *refusal.sentences)))
-    drawing.arrow_head("red", "#b00000")
+    drawing.arrow_head("red", RED)
     drawing.arrow_head("black", "#111")
     drawing.text(LEFT, 34, TITLE, "head")
     right, y = draw_circle(drawing, refusal)

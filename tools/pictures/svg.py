@@ -8,6 +8,8 @@ NOTE = 6.8
 PLAIN = 7.3
 BOLD = 8.4
 
+RED = "#b00000"
+
 STYLE = """
 text { font-family: "DejaVu Sans", Verdana, Helvetica, Arial, sans-serif; font-size: 13px; fill: #111 }
 .head { font-size: 17px; font-weight: bold }
