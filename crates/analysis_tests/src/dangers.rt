@@ -1,9 +1,31 @@
 //! Questions, samples and dangerous structures as texts.
 
+use crate::examples::SKEW;
 use dep_graph::{Danger, Exposure};
+use example_sets::{PAY, REPORT, SMALL_BANK};
 use order_facts::{Node, Sample};
 use prog_paths::Question;
 use std::alloc::{AllocError, Global};
+
+/// Sets, and their least dangerous structures.
+pub const DANGEROUS: [(&str, &str); 4] = [
+    (
+        SKEW,
+        "0 1, 1 2 0 0 0 0 0 0 / 1 0, 0 2 0 0 0 0 0 0 / back [0]",
+    ),
+    (
+        SMALL_BANK,
+        "0 1, 4 2 0 0 0 0 0 0 / 4 0, 2 1 0 0 0 0 0 0 / back [2, 0]",
+    ),
+    (
+        REPORT,
+        "2 1, 0 1 0 0 0 0 0 0 / 0 0, 1 0 0 0 0 0 0 0 / back [1, 2]",
+    ),
+    (
+        PAY,
+        "0 0, 0 1 0 0 0 0 0 0 / 0 0, 0 1 0 0 0 0 0 0 / back [0]",
+    ),
+];
 
 /// Both accesses of a question, each by its path and its number there.
 pub fn push_question(text: &mut String, question: &Question) -> Result<(), AllocError> {

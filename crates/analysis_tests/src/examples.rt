@@ -22,14 +22,6 @@ pub const KEPT_REPORTS: &str =
     "{\"entries\":[[\"cover\",2,2,0,2,0,0,[[[\"m\",0],[\"t\",0]],[[\"t\",0],[\"m\",0]]]]],\
     \"levels\":[3,3,3],\"version\":1}";
 
-/// The certificate of the transfer set.
-pub const TRANSFERS: &str =
-    "{\"entries\":[[\"cover\",0,0,0,1,1,1,[[[\"m\",0],[\"t\",0]],[[\"t\",0],[\"m\",0]]]],\
-    [\"cover\",0,0,0,3,1,3,[[[\"m\",0],[\"t\",1]],[[\"t\",1],[\"m\",0]]]],\
-    [\"cover\",0,2,0,1,3,1,[[[\"m\",1],[\"t\",0]],[[\"t\",0],[\"m\",1]]]],\
-    [\"cover\",0,2,0,3,3,3,[[[\"m\",1],[\"t\",1]],[[\"t\",1],[\"m\",1]]]]],\
-    \"levels\":[1],\"version\":1}";
-
 /// Five branches, and these pairs of a read and a write.
 fn push_wide_body(text: &mut String, pairs: usize) -> Result<(), AllocError> {
     text.push_str("if v < 0 { } if v < 0 { } if v < 0 { } if v < 0 { } if v < 0 { } ")?;

@@ -1,4 +1,4 @@
-//! Texts of sets that several crates of tests take, and the sets that they are.
+//! Texts of sets that several crates of tests take, the sets that they are, and a certificate.
 #![tactic(auto)]
 
 ghost use Rattle.std.specs.Prelude.{IfOk};
@@ -83,6 +83,14 @@ program Transfer(a, b, v) {
   put t[b] = y + v;
 }
 ";
+
+/// The certificate of the transfer set: each read of a cell is covered by the change behind it.
+pub const TRANSFER_CERTIFICATE: &str =
+    "{\"entries\":[[\"cover\",0,0,0,1,1,1,[[[\"m\",0],[\"t\",0]],[[\"t\",0],[\"m\",0]]]],\
+    [\"cover\",0,0,0,3,1,3,[[[\"m\",0],[\"t\",1]],[[\"t\",1],[\"m\",0]]]],\
+    [\"cover\",0,2,0,1,3,1,[[[\"m\",1],[\"t\",0]],[[\"t\",0],[\"m\",1]]]],\
+    [\"cover\",0,2,0,3,3,3,[[[\"m\",1],[\"t\",1]],[[\"t\",1],[\"m\",1]]]]],\
+    \"levels\":[1],\"version\":1}";
 
 /// The computed-key set.
 pub const MOVE: &str = "\

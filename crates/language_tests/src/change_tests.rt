@@ -1,6 +1,5 @@
 //! Cells, rows, changes and what a run has done, as a reader works them out.
 
-use crate::played::{CELL_1_0, CELL_2_0};
 use crate::told::is_told;
 use prog_tree::{
     Cell, Changes, Env, Piece, Progress, Region, RisingCells, RowPieces, Rows, Sequence,

@@ -1,6 +1,6 @@
 //! Sets of the tests, and rows.
 
-use example_sets::{TRANSFER, set_of};
+use example_sets::{TRANSFER, TRANSFER_CERTIFICATE, set_of};
 use prog_tree::{Cell, Rows};
 use robust_cert::{Certificate, RobustSet, from_json, verify};
 use std::alloc::{AllocError, Global};
@@ -44,15 +44,10 @@ pub const TOTAL: usize = 0;
 
 pub const MAYBE: usize = 1;
 
-/// The transfer set: each read of a cell is covered by the change behind it.
+/// The transfer set.
 pub const TRANSFERS: Certified = Certified {
     text: TRANSFER,
-    certificate: "{\"entries\":[\
-[\"cover\",0,0,0,1,1,1,[[[\"m\",0],[\"t\",0]],[[\"t\",0],[\"m\",0]]]],\
-[\"cover\",0,0,0,3,1,3,[[[\"m\",0],[\"t\",1]],[[\"t\",1],[\"m\",0]]]],\
-[\"cover\",0,2,0,1,3,1,[[[\"m\",1],[\"t\",0]],[[\"t\",0],[\"m\",1]]]],\
-[\"cover\",0,2,0,3,3,3,[[[\"m\",1],[\"t\",1]],[[\"t\",1],[\"m\",1]]]]\
-],\"levels\":[1],\"version\":1}",
+    certificate: TRANSFER_CERTIFICATE,
 };
 
 fn verified(alloc: Global, text: &str, certificate: &Certificate) -> Result<RobustSet, Fail> {

@@ -3,8 +3,8 @@
 //! refuses none.
 
 use crate::certificates::checked_tests::told;
-use crate::examples::{KEPT_PAYS, TRANSFERS};
-use example_sets::{KEPT_PAY, TRANSFER, checked_when_asked_again};
+use crate::examples::KEPT_PAYS;
+use example_sets::{KEPT_PAY, TRANSFER, TRANSFER_CERTIFICATE, checked_when_asked_again};
 use prog_check::ProgramSet;
 use robust_cert::{CertFault, Certificate, JsonFault, RobustSet, from_json, verify};
 use std::alloc::Global;
@@ -50,7 +50,7 @@ fn said_of(alloc: Global, text: &str, written: &str) -> Result<Result<usize, Cer
 
 #[test]
 fn certificates_are_read_and_checked_when_asked_again(rt: HostRuntime) -> Result<(), Fail> {
-    for (text, written) in [(TRANSFER, TRANSFERS), (KEPT_PAY, KEPT_PAYS)] {
+    for (text, written) in [(TRANSFER, TRANSFER_CERTIFICATE), (KEPT_PAY, KEPT_PAYS)] {
         let said = said_of(rt.alloc(), text, written)?;
         assert!(rt; said == Ok(1), "{text}");
     }

@@ -1,6 +1,7 @@
 //! Certificates as text, told by hand.
 
-use crate::examples::{KEPT_PAYS, KEPT_REPORTS, TRANSFERS};
+use crate::examples::{KEPT_PAYS, KEPT_REPORTS};
+use example_sets::TRANSFER_CERTIFICATE;
 use order_facts::{Node, Nodes};
 use prog_tree::Sequence;
 use robust_cert::{
@@ -11,10 +12,10 @@ use std::alloc::{AllocError, Global};
 use std::process::Abort;
 use std::thread::Threads;
 
-/// A set without programs.
+/// The certificate of a set without programs.
 const EMPTY: &str = "{\"entries\":[],\"levels\":[],\"version\":1}";
 
-/// The ledger set.
+/// That of the ledger set.
 const LEDGER: &str = "{\"entries\":[],\"levels\":[2,3,2],\"version\":1}";
 
 /// Each kind of entry and node, numbers at the ends of their ranges, and empty lists.
@@ -32,7 +33,7 @@ const WRITTEN: [(&str, &str); 13] = [
     (EMPTY, EMPTY),
     (LEDGER, LEDGER),
     (KEPT_REPORTS, KEPT_REPORTS),
-    (TRANSFERS, TRANSFERS),
+    (TRANSFER_CERTIFICATE, TRANSFER_CERTIFICATE),
     (EACH_KIND, EACH_KIND),
     (
         "{ \"version\" : 1,\n \"levels\" : [ 3 ] , \"entries\" : [ ] }\n",
@@ -581,7 +582,7 @@ fn no_front_is_json(rt: &impl Abort, alloc: Global, text: &str) {
 
 #[test]
 fn a_text_that_is_cut_is_no_json(rt: HostRuntime) {
-    for text in [EMPTY, KEPT_REPORTS, TRANSFERS, KEPT_PAYS] {
+    for text in [EMPTY, KEPT_REPORTS, TRANSFER_CERTIFICATE, KEPT_PAYS] {
         no_front_is_json(&rt, rt.alloc(), text);
     }
 }

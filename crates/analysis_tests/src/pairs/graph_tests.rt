@@ -1,11 +1,11 @@
 //! The least dangerous structures of sets, and their levels.
 
-use crate::dangers::shown;
-use crate::examples::{SKEW, paths_of};
+use crate::dangers::{DANGEROUS, shown};
+use crate::examples::paths_of;
 use crate::pairs::sets::{class_table_of, table_of};
 use crate::told::is_told;
 use dep_graph::Graph;
-use example_sets::{LEDGER, REPORT, SMALL_BANK, TRANSFER};
+use example_sets::{LEDGER, TRANSFER};
 use prog_paths::Path;
 use std::alloc::{AllocError, Global};
 use std::process::Abort;
@@ -53,21 +53,11 @@ fn check(rt: &impl Abort, alloc: Global, text: &str, wanted: &str) -> Result<(),
 }
 
 #[test]
-fn write_skew_is_dangerous(rt: HostRuntime) -> Result<(), Fail> {
-    let wanted = "0 1, 1 2 0 0 0 0 0 0 / 1 0, 0 2 0 0 0 0 0 0 / back [0]";
-    check(&rt, rt.alloc(), SKEW, wanted)
-}
-
-#[test]
-fn small_bank_is_dangerous(rt: HostRuntime) -> Result<(), Fail> {
-    let wanted = "0 1, 4 2 0 0 0 0 0 0 / 4 0, 2 1 0 0 0 0 0 0 / back [2, 0]";
-    check(&rt, rt.alloc(), SMALL_BANK, wanted)
-}
-
-#[test]
-fn a_report_is_dangerous(rt: HostRuntime) -> Result<(), Fail> {
-    let wanted = "2 1, 0 1 0 0 0 0 0 0 / 0 0, 1 0 0 0 0 0 0 0 / back [1, 2]";
-    check(&rt, rt.alloc(), REPORT, wanted)
+fn dangerous_sets_have_a_danger(rt: HostRuntime) -> Result<(), Fail> {
+    for (text, wanted) in DANGEROUS {
+        check(&rt, rt.alloc(), text, wanted)?;
+    }
+    Ok(())
 }
 
 #[test]

@@ -1,10 +1,10 @@
 //! What the analysis of sets finds: the text of a certificate, or the least dangerous structure.
 
-use crate::dangers::shown;
-use crate::examples::{KEPT_PAYS, KEPT_REPORTS, SKEW, TRANSFERS};
+use crate::dangers::{DANGEROUS, shown};
+use crate::examples::{KEPT_PAYS, KEPT_REPORTS};
 use crate::repairs::sets::{APART, APART_TWICE, COLUMNS, KEPT_REPORT};
 use crate::told::is_told;
-use example_sets::{KEPT_PAY, LEDGER, PAY, REPORT, SMALL_BANK, TRANSFER, set_of};
+use example_sets::{KEPT_PAY, LEDGER, TRANSFER, TRANSFER_CERTIFICATE, set_of};
 use robust_cert::to_json;
 use si_repair::{AnalyseFault, Finding, certify, certify_par};
 use std::alloc::Global;
@@ -51,24 +51,7 @@ fn check_by_threads(
 
 #[test]
 fn dangerous_sets_are_refused(rt: HostRuntime) -> Result<(), Fail> {
-    for (text, wanted) in [
-        (
-            SKEW,
-            "0 1, 1 2 0 0 0 0 0 0 / 1 0, 0 2 0 0 0 0 0 0 / back [0]",
-        ),
-        (
-            SMALL_BANK,
-            "0 1, 4 2 0 0 0 0 0 0 / 4 0, 2 1 0 0 0 0 0 0 / back [2, 0]",
-        ),
-        (
-            REPORT,
-            "2 1, 0 1 0 0 0 0 0 0 / 0 0, 1 0 0 0 0 0 0 0 / back [1, 2]",
-        ),
-        (
-            PAY,
-            "0 0, 0 1 0 0 0 0 0 0 / 0 0, 0 1 0 0 0 0 0 0 / back [0]",
-        ),
-    ] {
+    for (text, wanted) in DANGEROUS {
         check(&rt, rt.alloc(), text, wanted)?;
         check_by_threads(&rt, rt.alloc(), text, wanted)?;
     }
@@ -97,7 +80,7 @@ fn sets_without_covers_are_certified(rt: HostRuntime) -> Result<(), Fail> {
 const COVERED: [(&str, &str); 4] = [
     (KEPT_PAY, KEPT_PAYS),
     (KEPT_REPORT, KEPT_REPORTS),
-    (TRANSFER, TRANSFERS),
+    (TRANSFER, TRANSFER_CERTIFICATE),
     (
         COLUMNS,
         "{\"entries\":[[\"cover\",0,2,0,3,0,1,[[[\"m\",0],[\"n\",5],[\"t\",1]],[[\"t\",1],\

@@ -42,7 +42,7 @@ fn plan_of(alloc: Global, text: &str) -> Result<Plan, Fail> {
 fn plans_have_the_pairs_that_are_needed(rt: HostRuntime) -> Result<(), Fail> {
     for &(text, wanted) in PLANS.iter() {
         let plan = plan_of(rt.alloc(), text)?;
-        assert!(rt; plan.pairs.as_slice() == wanted);
+        assert!(rt; plan.pairs.as_slice() == wanted, "{text}");
     }
     Ok(())
 }
@@ -103,7 +103,7 @@ fn is_first(found: Option<Question>, wanted: &[[usize; 4]]) -> bool {
 fn what_is_not_covered_is_exposed(rt: HostRuntime) -> Result<(), Fail> {
     for &(text, pair, wanted) in EXPOSED.iter() {
         let exposed = exposed_of(&rt, rt.alloc(), text, pair)?;
-        assert!(rt; are_numbered(&exposed, wanted));
+        assert!(rt; are_numbered(&exposed, wanted), "{text}");
     }
     Ok(())
 }
@@ -126,7 +126,7 @@ fn first_of(
 fn the_first_that_is_exposed_is_found(rt: HostRuntime) -> Result<(), Fail> {
     for &(text, pair, wanted) in EXPOSED.iter() {
         let first = first_of(&rt, rt.alloc(), text, pair)?;
-        assert!(rt; is_first(first, wanted));
+        assert!(rt; is_first(first, wanted), "{text}");
     }
     Ok(())
 }
@@ -187,7 +187,7 @@ fn first_has_range(alloc: Global, text: &str, number: usize) -> Result<bool, Fai
 fn an_each_is_a_range_and_its_body_is_not(rt: HostRuntime) -> Result<(), Fail> {
     for &(number, wanted) in RANGES.iter() {
         let found = first_has_range(rt.alloc(), MOVE_IN_A_BODY, number)?;
-        assert!(rt; found == wanted);
+        assert!(rt; found == wanted, "{number}");
     }
     Ok(())
 }

@@ -110,7 +110,8 @@ impl<'a> Desk<'a> {
         answer
     }
 
-    fn set(&mut self, rt: &impl Abort, args: &'static [i64]) -> Answer {
+    // An instance of `Set` begins and commits, beside the ticket at hand.
+    fn commit_set(&mut self, rt: &impl Abort, args: &'static [i64]) -> Answer {
         let ride = Ride {
             program: SET,
             args,
@@ -176,7 +177,7 @@ impl<'a> Desk<'a> {
             Call::CommitOther(ride) => self.commit(rt, self.other, ride),
             Call::End(ride) => self.end(rt, ride),
             Call::Withdraw => self.withdraw(rt),
-            Call::Set(args) => self.set(rt, args),
+            Call::Set(args) => self.commit_set(rt, args),
             Call::Vacuum => Answer::Count(self.book.vacuum()),
             _ => self.ask(rt, call),
         }

@@ -3,8 +3,6 @@
 use crate::book::audits::{Any, Least, Ordered, Record, check_orders};
 use crate::book::sets::{BALANCE, LOOK, REGISTERS, SET, TRANSACT_SAVING, WRITE_CHECK};
 use example_sets::SMALL_BANK;
-use std::alloc::Global;
-use std::process::Abort;
 use std::test::Fail;
 
 /// Savings and a checking account, both empty.
@@ -59,9 +57,9 @@ const OLD: Ordered = Ordered {
     unfitting: &[&[1, 2]],
 };
 
-const LOOKS: &[Record; 7] = &[(LOOK, &[1], 0, &[-1]); 7];
-
 const SIX_LOOKS: [Record; 6] = [(LOOK, &[1], 0, &[-1]); 6];
+
+const SEVEN_LOOKS: [Record; 7] = [(LOOK, &[1], 0, &[-1]); 7];
 
 /// Six commits are ordered.
 const SIX: Ordered = Ordered {
@@ -78,23 +76,17 @@ const SIX: Ordered = Ordered {
 const SEVEN: Ordered = Ordered {
     set: REGISTERS,
     opening: &[],
-    records: LOOKS,
+    records: &SEVEN_LOOKS,
     least: Least::Order(&[1, 2, 3, 4, 5, 6, 7]),
     any: Any::TooMany,
     fitting: &[&[7, 6, 5, 4, 3, 2, 1]],
     unfitting: &[],
 };
 
-const ORDERED: &[Ordered] = &[ANOMALY, SERIAL, OLD, SIX, SEVEN];
-
-fn check_all(rt: &impl Abort, alloc: Global, ordered: &[Ordered]) -> Result<(), Fail> {
-    for wanted in ordered {
-        check_orders(rt, alloc, wanted)?;
-    }
-    Ok(())
-}
-
 #[test]
 fn books_have_these_orders(rt: HostRuntime) -> Result<(), Fail> {
-    check_all(&rt, rt.alloc(), ORDERED)
+    for wanted in &[ANOMALY, SERIAL, OLD, SIX, SEVEN] {
+        check_orders(&rt, rt.alloc(), wanted)?;
+    }
+    Ok(())
 }

@@ -7,8 +7,6 @@ use crate::book::sets::{
 use example_sets::SMALL_BANK;
 use history_book::OrderReason;
 use prog_tree::{Cell, Region};
-use std::alloc::Global;
-use std::process::Abort;
 use std::test::Fail;
 
 const CHECKING: Cell = Cell {
@@ -76,14 +74,10 @@ const SKEW: Reasoned = Reasoned {
     ],
 };
 
-fn check_all(rt: &impl Abort, alloc: Global, reasoned: &[Reasoned]) -> Result<(), Fail> {
-    for wanted in reasoned {
-        check_reasons(rt, alloc, wanted)?;
-    }
-    Ok(())
-}
-
 #[test]
 fn books_tell_these_reasons(rt: HostRuntime) -> Result<(), Fail> {
-    check_all(&rt, rt.alloc(), &[ANOMALY, DEPOSITS, REGISTER, SKEW])
+    for wanted in &[ANOMALY, DEPOSITS, REGISTER, SKEW] {
+        check_reasons(&rt, rt.alloc(), wanted)?;
+    }
+    Ok(())
 }

@@ -1,7 +1,7 @@
 //! Calls of a store and their answers, as plain data.
 
-use crate::store::twin::{Deed, cell, changes};
-use prog_tree::{Cell, Region, RisingCells, RowPieces, Rows, Sequence};
+use crate::store::twin::{Deed, cell, changes, region};
+use prog_tree::{Cell, RisingCells, RowPieces, Rows, Sequence};
 use std::alloc::{AllocError, Global};
 use std::process::Abort;
 use version_store::{Clash, Store};
@@ -76,15 +76,6 @@ fn clash(rt: &impl Abort, alloc: Global, store: &Store, start: u64, deeds: &[Dee
     Answer::Clashes(store.clash(start, &changes))
 }
 
-// `t[1..3]`.
-const FIRST_THREE: Region = Region {
-    table: 0,
-    first_low: 1,
-    first_high: 3,
-    second_low: 0,
-    second_high: 0,
-};
-
 // `t[first]` alone.
 fn alone(alloc: Global, first: i64) -> Result<RisingCells, AllocError> {
     let mut cells = Vec::from_slice(alloc, &[cell(first)])?;
@@ -106,7 +97,7 @@ fn are_held(
     let own = alone(alloc, own).expect(rt, "memory");
     let list = Sequence::from_slice(alloc, rows).expect(rt, "memory");
     let rows = RowPieces::from_list(list).expect(rt, "memory");
-    Answer::Is(store.are_held(start, &FIRST_THREE, &own, &rows))
+    Answer::Is(store.are_held(start, &region(1, 3), &own, &rows))
 }
 
 fn make(rt: &impl Abort, alloc: Global, store: &mut Store, call: &Call) -> Answer {

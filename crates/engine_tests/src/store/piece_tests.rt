@@ -1,7 +1,7 @@
 //! Scans that share the rows of blocks, beside those of the twin.
 
 use crate::store::calls::{install, open};
-use crate::store::twin::{Deed, rows_after};
+use crate::store::twin::{Deed, region, rows_after};
 use prog_tree::{Cell, Region, RisingCells, RowPieces};
 use std::alloc::Global;
 use std::process::Abort;
@@ -29,16 +29,6 @@ fn opening_rows(rt: &impl Abort, alloc: Global) -> Vec<(i64, i64)> {
         rows.push((2 * value, value)).expect(rt, "memory");
     }
     rows
-}
-
-fn region(low: i64, high: i64) -> Region {
-    Region {
-        table: 0,
-        first_low: low,
-        first_high: high,
-        second_low: 0,
-        second_high: 0,
-    }
 }
 
 /// The rows of pieces, one behind another.

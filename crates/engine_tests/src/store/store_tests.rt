@@ -1,7 +1,7 @@
 //! Calls of a store by hand, and its scans beside those of the twin.
 
 use crate::store::calls::{Answer, Call, install, open, play};
-use crate::store::twin::{Deed, rows_after};
+use crate::store::twin::{Deed, region, rows_after};
 use prog_tree::{Cell, Region};
 use std::alloc::Global;
 use std::process::Abort;
@@ -146,13 +146,7 @@ fn check_scan(rt: &impl Abort, alloc: Global, store: &Store, region: &Region, co
 }
 
 fn check_scans(rt: &impl Abort, alloc: Global, store: &Store, low: i64, high: i64) {
-    let region = Region {
-        table: 0,
-        first_low: low,
-        first_high: high,
-        second_low: 0,
-        second_high: 0,
-    };
+    let region = region(low, high);
     for start in 0..6 {
         check_scan(rt, alloc, store, &region, &COMMITS[..start]);
     }

@@ -1,6 +1,6 @@
 //! The store as its definition tells it: a plain list of commits.
 
-use prog_tree::{Cell, Changes};
+use prog_tree::{Cell, Changes, Region};
 use std::alloc::Global;
 use std::process::Abort;
 
@@ -10,6 +10,17 @@ pub fn cell(first: i64) -> Cell {
         table: 0,
         first,
         second: 0,
+    }
+}
+
+/// `t[low..high]`, cells of the table 0.
+pub fn region(low: i64, high: i64) -> Region {
+    Region {
+        table: 0,
+        first_low: low,
+        first_high: high,
+        second_low: 0,
+        second_high: 0,
     }
 }
 
