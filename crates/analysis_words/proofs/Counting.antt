@@ -8,6 +8,7 @@ use Rattle.std.specs.List.{AllZip, flat_map}
 use Rattle.std.specs.declared.alloc.Global.{Global}
 use Rattle.rayon.specs.Lists.{chunks_of}
 use Rattle.rayon.proofs.ToStd.{chunks_of-concat}
+use Rattle.rayon.proofs.ListFacts.{AllZip-weaken}
 use Rattle.prog_check.specs.declared.path.Access.{Access}
 use Rattle.prog_check.specs.declared.path.Path.{Path}
 use Rattle.robust_cert.specs.declared.entries.Reason.{Reason}
@@ -39,13 +40,6 @@ module _ (rs : List Reason) (counted : Entry → Bool) (count : EntryCounts → 
       in_parts (chunks_of (max size 1) told) counts h
       ∙ ap (λ (l : List Told). count_by counted (entries_told rs l)) (chunks_of-concat (max size 1) told some)
 
--- what holds of each two holds in another way too
-zip-then : {X Y : Type 0} (R S : X → Y → Type 0) → ((x : X) (y : Y) → R x y → S x y) → (xs : List X) (ys : List Y) → AllZip R xs ys → AllZip S xs ys
-zip-then R S turn [] [] h = tt
-zip-then R S turn [] (y ∷ ys) h = absurd h
-zip-then R S turn (x ∷ xs) [] h = absurd h
-zip-then R S turn (x ∷ xs) (y ∷ ys) h = (turn x y h.0, zip-then R S turn xs ys h.1)
-
 -- the number of an access that is there
 number-there : (paths : List Path) (entries : List Entry) (counts : EntryCounts) (x a : ℕ) → is_some (access_at paths x a) ≡ true → AreCountsOf paths entries counts
     → number_in counts.covers.items x a ≡ count_by (λ (e : Entry). is_in_cover x a e.question e.reason) entries
@@ -59,9 +53,9 @@ pub counted-in-parts : (paths : List Path) (rs : List Reason) (told : List Told)
     → AreCountsInParts paths (entries_told rs told) parts
 counted-in-parts paths rs told size parts h = record {
   apart = all_counted rs (λ (e : Entry). is_apart e.reason) (λ (c : EntryCounts). c.apart) told size parts.items
-      (zip-then _ _ (λ part c are. are.apart) (chunks_of (max size 1) told) parts.items h);
+      (AllZip-weaken _ _ (λ part c are. are.apart) (chunks_of (max size 1) told) parts.items h);
   covers = λ x a there. all_counted rs (λ (e : Entry). is_in_cover x a e.question e.reason) (λ (c : EntryCounts). number_in c.covers.items x a) told size parts.items
-      (zip-then _ _ (λ part c are. number-there paths (entries_told rs part) c x a there are) (chunks_of (max size 1) told) parts.items h);
+      (AllZip-weaken _ _ (λ part c are. number-there paths (entries_told rs part) c x a there are) (chunks_of (max size 1) told) parts.items h);
 }
 
 -- ---- sums

@@ -8,6 +8,7 @@ use Rattle.std.proofs.lemmas.Bool.Decides.{nat_tests}
 use Rattle.std.proofs.lemmas.List.{map-set, length-map, length-set, length-append}
 use Rattle.std.proofs.lemmas.Option.{slice_get-map, slice_get_within}
 use Rattle.std.specs.declared.alloc.AllocError.{AllocError}
+use Rattle.std.proofs.lemmas.Bool.{cases_eq}
 use Rattle.prog_tree.specs.declared.deed.Deed.{Deed}
 use Rattle.prog_tree.specs.declared.deed.End.{End}
 use Rattle.prog_tree.specs.declared.deed.End.TheVariants.{Ready, Aborted}
@@ -28,7 +29,7 @@ use Rattle.si_engine.specs.declared.event.Event.{Event}
 use Rattle.si_engine.specs.declared.event.Event.TheVariants as event
 use Rattle.si_engine.specs.declared.event.Reply.{Reply}
 use Rattle.si_engine.specs.declared.event.Reply.TheVariants as reply
-use Rattle.si_engine.proofs.PlaceLaws.{get-set_same, get-set_other, set-same, put-back, same_number, numbered-stays, numbered-ends, numbered-found, least-numbered}
+use Rattle.si_engine.proofs.PlaceLaws.{get-set_same, get-set_other, set-same, put-back, numbered-stays, numbered-ends, numbered-found, least-numbered}
 
 -- ---- what an event leaves
 
@@ -147,7 +148,7 @@ module _ (v : BookView) (runs : List (Option ActiveRun)) (kept : IsEngine v runs
         kept.active
         ∙ sym (numbered-stays 0 (begun_of runs) i (active_in a) (active_in b) (begun_at runs i (Some a) at) same)
         ∙ ap (numbered 0) (sym (begun-set runs i (Some b)));
-    held = λ n x there. go n x there (same_number i n);
+    held = λ n x there. go n x there (cases_eq n i);
   }
     where
       go : (n : ℕ) (x : ActiveRun) → slice_get (set runs i (Some b)) n ≡ Some (Some x) → (n ≡ i) ⊎ (n ≡ i → ⊥) → IsHeld v n x
@@ -168,7 +169,7 @@ module _ (v : BookView) (runs : List (Option ActiveRun)) (kept : IsEngine v runs
         ∙ ap (without (0 + i)) kept.active
         ∙ sym (numbered-ends 0 (begun_of runs) i (active_in a) (begun_at runs i (Some a) at))
         ∙ ap (numbered 0) (sym (begun-set runs i None));
-    held = λ n x there. leaves.held n x (go n x there (same_number i n));
+    held = λ n x there. leaves.held n x (go n x there (cases_eq n i));
   }
     where
       go : (n : ℕ) (x : ActiveRun) → slice_get (set runs i None) n ≡ Some (Some x) → (n ≡ i) ⊎ (n ≡ i → ⊥) → IsHeld v n x

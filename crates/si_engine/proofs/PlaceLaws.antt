@@ -1,11 +1,12 @@
 -- Laws of the places of instances: which are active, by their numbers.
-use Rattle.std.proofs.Common.{◌≡◌, ℕ, zero, suc, ◌+◌, ◌<◌, ◌==◌, min, true, false, cond, nat_lt, List, [], ◌∷◌, ◌++◌, length, set, refl, ap, sym, ◌∙◌, ◌⊎◌, inl, inr, arith}
+use Rattle.std.proofs.Common.{◌≡◌, ℕ, zero, suc, ◌+◌, ◌<◌, ◌==◌, min, true, false, cond, nat_lt, List, [], ◌∷◌, ◌++◌, length, set, refl, ap, sym, ◌∙◌, arith}
 use Rattle.std.specs.Prelude.{slice_get, Option, Some, None}
 use Rattle.std.specs.BTreeMap.{is_at}
 use Rattle.std.specs.Map.{lookup}
 use Rattle.std.specs.Ordering.{nat_cmp}
 use Rattle.std.proofs.lemmas.Bool.Decides.{nat_tests}
-use Rattle.std.proofs.lemmas.List.{set-set}
+use Rattle.std.proofs.lemmas.List.{set-set, set-get_or}
+use Rattle.std.proofs.lemmas.Option.{get_or_from_slice_get}
 use Rattle.history_book.specs.View.{without}
 use Rattle.history_book.specs.View as book
 use Rattle.si_engine.specs.Machine.{Active, active_of, least_start}
@@ -26,24 +27,11 @@ get-set_other (z ∷ xs) (suc i) zero y other = refl
 get-set_other (z ∷ xs) (suc i) (suc j) y other = get-set_other xs i j y (λ same. other (ap suc same))
 
 pub set-same : {X : Type 0} (xs : List X) (i : ℕ) (x : X) → slice_get xs i ≡ Some x → set xs i x ≡ xs
-set-same [] i x at = refl
-set-same (z ∷ xs) zero x at = let one : z ≡ x = cc in ap (λ y. y ∷ xs) (sym one)
-set-same (z ∷ xs) (suc i) x at = ap (λ ys. z ∷ ys) (set-same xs i x at)
+set-same xs i x at = ap (set xs i) (sym (get_or_from_slice_get xs i x x at)) ∙ set-get_or xs i x
 
 -- taken out of its place, and another put there
 pub put-back : {X : Type 0} (xs ys : List X) (i : ℕ) (x y : X) → ys ≡ set xs i x → set ys i y ≡ set xs i y
 put-back xs ys i x y taken = ap (λ zs. set zs i y) taken ∙ set-set xs i x y
-
--- a number is that of another, or not
-pub same_number : (i j : ℕ) → (j ≡ i) ⊎ (j ≡ i → ⊥)
-same_number zero zero = inl refl
-same_number zero (suc j) = inr (λ same. absurd (cc))
-same_number (suc i) zero = inr (λ same. absurd (cc))
-same_number (suc i) (suc j) = go (same_number i j)
-  where
-    go : (j ≡ i) ⊎ (j ≡ i → ⊥) → (suc j ≡ suc i) ⊎ (suc j ≡ suc i → ⊥)
-    go (inl same) = inl (ap suc same)
-    go (inr other) = inr (λ same. other (omega arith))
 
 -- ---- active instances with their numbers
 

@@ -3,6 +3,7 @@ use Rattle.std.proofs.Common.{◌≡◌, ℕ, zero, suc, List, [], ◌∷◌, �
 use Rattle.std.specs.Prelude.{slice_get, Option, Some, None, All}
 use Rattle.std.specs.List.{AllByRecursion}
 use Rattle.std.proofs.lemmas.List.Elements.{All-from_recursion}
+use Rattle.std.proofs.ByRecursion.{All-push}
 use Rattle.prog_tree.specs.ChangeSet.{ChangeSet, HasI64Changes, changed}
 use Rattle.prog_tree.specs.Number.{IsI64}
 use Rattle.prog_tree.specs.Syntax.{ProgramTree, DraftTree}
@@ -16,11 +17,6 @@ use Rattle.history_book.specs.History.{Instance, eval_found, eval_of, commits_af
 -- each of these commits writes i64
 abbrev AllWriteI64 : List ChangeSet → Type 0
 AllWriteI64 ws = AllByRecursion (λ (w : ChangeSet). HasI64Changes w.cells) ws
-
-write_one_more : (ws : List ChangeSet) (w : ChangeSet) → AllWriteI64 ws → HasI64Changes w.cells →
-    AllWriteI64 (ws ++ w ∷ [])
-write_one_more [] w all is = (is, tt)
-write_one_more (v ∷ ws) w all is = (all.0, write_one_more ws w all.1 is)
 
 -- a state after some of the commits
 rows_at : (m : TableState) (ws : List ChangeSet) (n : ℕ) → AllWriteI64 ws → HasI64Rows m →
@@ -52,7 +48,7 @@ commits_write set opening past (i ∷ h) sound rows args all =
     instance_writes set i (state_at opening past i.start) sound (args 0 i refl)
     (rows_at opening past i.start all rows) in
     commits_write set opening (past ++ w ∷ []) h sound rows (λ k b found. args (suc k) b found)
-    (write_one_more past w all writes)
+    (All-push (λ (v : ChangeSet). HasI64Changes v.cells) past w all writes)
 
 -- each state of a lawful history of a sound set has rows of i64, if the opening has
 pub rows_after : (set : DraftTree) (opening : TableState) (h : List Instance) → IsSound set → IsLawful set opening h →

@@ -7,6 +7,7 @@ use Rattle.std.proofs.lemmas.Grind.{flat_map-append}
 use Rattle.std.proofs.lemmas.List.{length-append, length-set}
 use Rattle.std.proofs.lemmas.List.Elements.{Contains-append_left, Contains-append_right, Contains-append_cases}
 use Rattle.std.proofs.lemmas.Option.{slice_get_within}
+use Rattle.std.proofs.lemmas.Bool.{cases_eq}
 use Rattle.prog_tree.specs.declared.cell.Cell.{Cell}
 use Rattle.prog_tree.specs.declared.deed.Deed.{Deed}
 use Rattle.prog_tree.specs.declared.deed.End.{End}
@@ -25,7 +26,7 @@ use Rattle.si_engine.specs.declared.event.Reply.{Reply}
 use Rattle.si_engine.specs.declared.event.Reply.TheVariants as reply
 use Rattle.si_engine.specs.Headline.{Exchange, Call, call_in, IsBegunBy, IsReadyWith, IsCommittedAs, committed_at, commit_in, commits_said}
 use Rattle.si_engine.specs.Machine.{Active, Machine, new_machine, is_full, at_begin, at_end, deed_or_end, with_begun, if_active, admitted, begin_by, begin_at_by, commit_by, least_start, machine_step, replies_of, machine_after}
-use Rattle.si_engine.proofs.PlaceLaws.{get-set_same, get-set_other, same_number}
+use Rattle.si_engine.proofs.PlaceLaws.{get-set_same, get-set_other}
 
 -- ---- lists
 
@@ -227,8 +228,8 @@ module _ (draft : DraftTree) (opening : TableState) where
           × (b.ready ≡ true → Contains more (event.Step i, reply.Ready (done s a.instance).replies))) →
           IsTold more t
       changed_one i a p at begun goes_on = answered
-          (λ j b there. active_at j b (ap (λ l. slice_get l j) (sym begun) ∙ there) (same_number i j))
-          (λ j there. ap (λ l. slice_get l j) begun ∙ ended_at j there (same_number i j))
+          (λ j b there. active_at j b (ap (λ l. slice_get l j) (sym begun) ∙ there) (cases_eq j i))
+          (λ j there. ap (λ l. slice_get l j) begun ∙ ended_at j there (cases_eq j i))
           (let e = ap length begun ∙ length-set s.begun i p in omega (arith, e))
         where
           active_at : (j : ℕ) (b : Active) → slice_get (set s.begun i p) j ≡ Some (Some b) → (j ≡ i) ⊎ (j ≡ i → ⊥) →
@@ -373,7 +374,7 @@ module _ (draft : DraftTree) (opening : TableState) where
 
     committed_told : IsTold all longer_by_one
     committed_told = record {
-      active = λ j b there. active_left j b there (same_number i j);
+      active = λ j b there. active_left j b there (cases_eq j i);
       unborn = still_unborn said committing s longer_by_one told told_none done_same as_long (omega (arith, length-set s.begun i None));
       commits = λ k b there. commit_at k b (get-push s.history a.instance b k there);
       numbered = λ j n there. ap (λ l. committed_at l n) commits_are ∙ number_of j n (told_before said committing _ there);
@@ -387,7 +388,7 @@ module _ (draft : DraftTree) (opening : TableState) where
             IsToldCommit all longer_by_one k b
         commit_at k b (inl earlier) =
             stays_committed said committing s longer_by_one told told_none done_same as_long k b earlier
-            (λ j there. ended_left j there (same_number i j))
+            (λ j there. ended_left j there (cases_eq j i))
         commit_at k b (inr now) = subst (λ c. IsToldCommit all longer_by_one k c) now.1 (last_commit k now.0)
 
         number_of : (j n : ℕ) → Contains said (event.Commit j, reply.Committed n) ⊎ (committing ≡ (event.Commit j, reply.Committed n)) →

@@ -1,7 +1,7 @@
 -- A read-write dependency between concurrent instances is a vulnerable edge.
 use Rattle.std.proofs.Common.{◌≡◌, ◌≢◌, ℕ, List, inl, inr, sym, subst, ◌∙◌, arith}
 use Rattle.std.specs.Prelude.{Some, slice_get}
-use Rattle.std.proofs.lemmas.Option.{slice_get_within, get_or_from_slice_get}
+use Rattle.std.proofs.lemmas.Option.{slice_get_within, get_or_from_slice_get, same_Some}
 use Rattle.prog_tree.specs.declared.cell.Cell.{Cell}
 use Rattle.prog_tree.specs.Syntax.{DraftTree}
 use Rattle.prog_tree.specs.Table.{TableState}
@@ -27,15 +27,12 @@ same_cell : (v w : Assignment) (a b : Access) → AreSameCell v a w b → cell_u
 same_cell v w a b s =
     let t = s.table in let f = s.first in let g = s.second in λ i. record { table = t i; first = f i; second = g i }
 
-same_path : (p q : Path) → Some p ≡ Some q → p ≡ q
-same_path p q e = cc
-
 module _ (set : DraftTree) (opening : TableState) (h : List Instance) (is : IsHistory set opening h) where
   -- an access of a node is one of the path that the instance follows
   on_path : (i : ℕ) (f : FollowsNode set opening h i) (n : ℕ) (a : Access) → IsAccessOf (paths_of set) f.node n a →
       slice_get f.path.accesses n ≡ Some a
   on_path i f n a at =
-      subst (λ (p : Path). slice_get p.accesses n ≡ Some a) (same_path at.0 f.path (sym at.1 ∙ f.path_at)) at.2
+      subst (λ (p : Path). slice_get p.accesses n ≡ Some a) (same_Some at.0 f.path (sym at.1 ∙ f.path_at)) at.2
 
   own_unknowns : (i : ℕ) (f : FollowsNode set opening h i) → AreOwn f.path.accesses
   own_unknowns i f =
