@@ -5,6 +5,7 @@ use Rattle.std.specs.List.{AllZip}
 use Rattle.std.proofs.lemmas.List.Elements.{All-nil, All-cons, All-head, All-tail, All-contains}
 use Rattle.std.proofs.lemmas.Bool.{cases_lt}
 use Rattle.std.proofs.lemmas.Option.{none-some, same_Some, slice_get_within, slice_get_past, slice_get-get_or, get_or_from_slice_get}
+use Rattle.std.proofs.lemmas.List.{get_or_default}
 use Rattle.prog_tree.proofs.Elements.{contains_at}
 use Rattle.prog_check.specs.declared.path.Kind.{Kind}
 use Rattle.prog_check.specs.declared.path.Access.{Access}
@@ -36,10 +37,6 @@ use Rattle.conflict_pairs.proofs.Moving.{asked_between}
 use Rattle.conflict_pairs.proofs.Paired.{place-any}
 use Rattle.conflict_pairs.proofs.Serving.{all-within, served-at}
 use Rattle.conflict_pairs.proofs.Zipped.{AllZip-lengths}
-
--- an item that is there doesn't depend on what stands for a missing one
-get_or_any : {A : Type 0} (xs : List A) (i : ℕ) (d e : A) → i < length xs → get_or xs i d ≡ get_or xs i e
-get_or_any xs i d e lt = get_or_from_slice_get xs i (get_or xs i e) d (slice_get-get_or xs i e lt)
 
 module _ (k : AccessClasses) (vs : List Verdict) where
   -- the answer of a pair stands at its place
@@ -249,10 +246,10 @@ module _ (paths : List Path) (k : AccessClasses) (ps : ClassPairs) (judged : Int
       pub verdict-is : (m : ℕ) (v : Verdict) → m ≡ get_or judged.numbers.items n m → v ≡ get_or vs m v → v ≡ e.verdict
       verdict-is m v m_is v_is =
           let pair = get_or ps.pairs.items n (record { first = 0; second = 0 }) in
-          let own = get_or_any ps.pairs.items n (record { first = 0; second = 0 }) pair pair-within in
-          let number = m_is ∙ get_or_any judged.numbers.items n m 0 number-within in
+          let own = get_or_default ps.pairs.items n (record { first = 0; second = 0 }) pair pair-within in
+          let number = m_is ∙ get_or_default judged.numbers.items n m 0 number-within in
           v_is
-          ∙ get_or_any vs m v (Apart []) (verdict-within m m_is)
+          ∙ get_or_default vs m v (Apart []) (verdict-within m m_is)
           ∙ ap (verdict_at vs) number
           ∙ ap (λ (x : ClassAnswer). x.verdict) (sym (answer-of pair own))
 

@@ -1,25 +1,16 @@
 -- What is entered into tables one after the other.
-use Rattle.std.proofs.Common.{◌≡◌, ◌≢◌, ℕ, ◌<◌, ◌≤◌, ◌+◌, ◌⊎◌, inl, inr, List, [], ◌∷◌, take, length, get_or, Bool, true, false, ◌||◌, ◌&&◌, refl, sym, ap, subst, ◌∙◌, arith}
+use Rattle.std.proofs.Common.{◌≡◌, ◌≢◌, ℕ, ◌<◌, ◌≤◌, ◌+◌, ◌⊎◌, inl, inr, List, [], take, length, get_or, Bool, true, false, ◌||◌, ◌&&◌, refl, sym, ap, subst, ◌∙◌, arith}
 use Rattle.std.specs.Prelude.{◌==◌}
 use Rattle.std.specs.List.{list_any}
 use Rattle.std.proofs.lemmas.Bool.Decides.{eqb_tells}
-use Rattle.std.proofs.lemmas.List.{take_more}
-use Rattle.std.proofs.lemmas.List.Folds.{list_any-append}
+use Rattle.std.proofs.lemmas.List.Folds.{list_any_more}
 use Rattle.std.proofs.Math.Bool.{or_assoc, or-false, and-or_distrib_left, and-or_distrib_right}
+use Rattle.std.proofs.lemmas.Bool.{or_right}
 use Rattle.order_facts.specs.Sets.{is_in, InsertsNode}
 use Rattle.order_facts.specs.Square.{Grid, entry, IsEmptySquare, IsSquareOf, Enters, JoinsSet}
 use Rattle.prog_paths.specs.declared.accesses.mark.EdgeTables.{EdgeTables}
 use Rattle.conflict_pairs.specs.Classed.{ClassAnswer}
 use Rattle.dep_graph.specs.Edges.{answer_edge, answer_vulnerable, is_one_of, EntersAnswer}
-
--- ---- one more of a list
-
-module _ {A : Type 0} (p : A → Bool) (xs : List A) (n : ℕ) (d : A) (inside : n < length xs) where
-  pub any-more : list_any p (take (n + 1) xs) ≡ (list_any p (take n xs) || p (get_or xs n d))
-  any-more =
-      ap (list_any p) (take_more xs n d inside)
-      ∙ list_any-append p (take n xs) (get_or xs n d ∷ [])
-      ∙ ap (λ (b : Bool). list_any p (take n xs) || b) (or-false (p (get_or xs n d)))
 
 -- ---- one table
 
@@ -46,7 +37,7 @@ one-more-first nodes n inside first old new x y is before one =
     Enters-as first new _ _
     (λ i j p q.
     sym (and-or_distrib_right (is_one_of (take n nodes) i) (x == i) (y == j))
-    ∙ ap (λ (b : Bool). b && (y == j)) (ap (λ (m : ℕ). is_one_of (take n nodes) i || m == i) is ∙ sym (any-more (λ m. m == i) nodes n 0 inside)))
+    ∙ ap (λ (b : Bool). b && (y == j)) (ap (λ (m : ℕ). is_one_of (take n nodes) i || m == i) is ∙ sym (list_any_more (λ m. m == i) nodes n 0 inside)))
     (Enters-then first old new _ _ before one)
 
 pub one-more-second : (nodes : List ℕ) (n : ℕ) → n < length nodes → (first old new : Grid) (x y : ℕ) → y ≡ get_or nodes n 0
@@ -56,7 +47,7 @@ one-more-second nodes n inside first old new x y is before one =
     Enters-as first new _ _
     (λ i j p q.
     sym (and-or_distrib_left (x == i) (is_one_of (take n nodes) j) (y == j))
-    ∙ ap (λ (b : Bool). (x == i) && b) (ap (λ (m : ℕ). is_one_of (take n nodes) j || m == j) is ∙ sym (any-more (λ m. m == j) nodes n 0 inside)))
+    ∙ ap (λ (b : Bool). (x == i) && b) (ap (λ (m : ℕ). is_one_of (take n nodes) j || m == j) is ∙ sym (list_any_more (λ m. m == j) nodes n 0 inside)))
     (Enters-then first old new _ _ before one)
 
 -- ---- rows and sets
@@ -83,12 +74,12 @@ module _ (nodes : List ℕ) (n : ℕ) (inside : n < length nodes) where
       Enters-as first new _ _
       (λ i j p q.
       sym (and-or_distrib_right (is_one_of (take n nodes) i) (row == i) (is_in members j))
-      ∙ ap (λ (b : Bool). b && is_in members j) (ap (λ (m : ℕ). is_one_of (take n nodes) i || m == i) is ∙ sym (any-more (λ m. m == i) nodes n 0 inside)))
+      ∙ ap (λ (b : Bool). b && is_in members j) (ap (λ (m : ℕ). is_one_of (take n nodes) i || m == i) is ∙ sym (list_any_more (λ m. m == i) nodes n 0 inside)))
       (Enters-then first old new _ _ before (Enters-row old new row members joins))
 
   -- a node beyond the table is none of it
   beyond : (i : ℕ) → i < get_or nodes n 0 → is_one_of (take (n + 1) nodes) i ≡ is_one_of (take n nodes) i
-  beyond i l = any-more (λ m. m == i) nodes n 0 inside ∙ by (eqb_tells (get_or nodes n 0) i)
+  beyond i l = list_any_more (λ m. m == i) nodes n 0 inside ∙ by (eqb_tells (get_or nodes n 0) i)
     where
       by : (((get_or nodes n 0 == i) ≡ true) × (get_or nodes n 0 ≡ i)) ⊎ (((get_or nodes n 0 == i) ≡ false) × (get_or nodes n 0 ≢ i)) → (is_one_of (take n nodes) i || get_or nodes n 0 == i) ≡ is_one_of (take n nodes) i
       by (inl e) = let k = e.1 in absurd (omega (arith, l, k))
@@ -100,14 +91,10 @@ module _ (nodes : List ℕ) (n : ℕ) (inside : n < length nodes) where
 
   -- one node more is in a set
   pub in-more : (old new : List Bool) (size row m : ℕ) → row ≡ get_or nodes n 0 → length old ≡ size → InsertsNode old new row → m < size → is_in old m ≡ is_one_of (take n nodes) m → is_in new m ≡ is_one_of (take (n + 1) nodes) m
-  in-more old new size row m is same inserts p before = by (eqb_tells row m) ∙ ap (λ (k : ℕ). is_one_of (take n nodes) m || k == m) is ∙ sym (any-more (λ k. k == m) nodes n 0 inside)
+  in-more old new size row m is same inserts p before = by (eqb_tells row m) ∙ ap (λ (k : ℕ). is_one_of (take n nodes) m || k == m) is ∙ sym (list_any_more (λ k. k == m) nodes n 0 inside)
     where
       by : (((row == m) ≡ true) × (row ≡ m)) ⊎ (((row == m) ≡ false) × (row ≢ m)) → is_in new m ≡ (is_one_of (take n nodes) m || row == m)
-      by (inl e) = subst (λ (k : ℕ). is_in new k ≡ true) e.1 inserts.here ∙ sym (true-behind (is_one_of (take n nodes) m) (row == m) e.0)
-        where
-          true-behind : (a b : Bool) → b ≡ true → (a || b) ≡ true
-          true-behind true b h = refl
-          true-behind false b h = h
+      by (inl e) = subst (λ (k : ℕ). is_in new k ≡ true) e.1 inserts.here ∙ sym (or_right (is_one_of (take n nodes) m) (row == m) e.0)
       by (inr d) =
           inserts.others m (omega (arith, p, same)) (λ k. d.1 (sym k)) ∙ before
           ∙ sym (ap (λ (b : Bool). is_one_of (take n nodes) m || b) d.0 ∙ or-false (is_one_of (take n nodes) m))
@@ -135,7 +122,7 @@ module _ (answers : List ClassAnswer) (n : ℕ) (e : ClassAnswer) (inside : n < 
     entries = λ i j p q.
         enters.entries i j (omega (arith, p, d.size_is)) (omega (arith, q, d.size_is))
         ∙ ap (λ (b : Bool). b || gives i j (get_or answers n e)) (d.entries i j p q)
-        ∙ sym (any-more (gives i j) answers n e inside);
+        ∙ sym (list_any_more (gives i j) answers n e inside);
   }
 
   pub GiveAnswers-more : (old new : EdgeTables) (nodes : ℕ) → GiveAnswers old nodes (take n answers) → EntersAnswer old new (get_or answers n e) → GiveAnswers new nodes (take (n + 1) answers)

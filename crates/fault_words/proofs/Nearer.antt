@@ -1,7 +1,7 @@
 -- The nearest of names, with one name more.
 use Rattle.std.proofs.Common.{◌≡◌, ◌<◌, ◌≤◌, ◌∙◌, ℕ, List, [], ◌∷◌, ◌++◌, ◌+◌, Option, Some, None, ap, arith, append_assoc, fold, get_or, length, map, option_map, refl, subst, sym, take}
 use Rattle.std.specs.Prelude.{All}
-use Rattle.std.proofs.lemmas.List.{map_push, take_more}
+use Rattle.std.proofs.lemmas.List.{map_push, map_more}
 use Rattle.std.proofs.lemmas.List.Elements.{All-append, All-cons, All-nil, All-push, All-weaker}
 use Rattle.std.proofs.lemmas.List.Sums.{fold-append}
 use Rattle.text_places.specs.Listing.{listed, with_listed}
@@ -57,12 +57,6 @@ no_nearer word names (Some near) name many found = record {
   least = All-push (λ other. edits word near ≤ edits word other) found.behind name found.least many;
 }
 
--- the texts of one name more
-texts_more : {X : Type 0} (text_of : X → List ℕ) (names : List X) (i : ℕ) (d : X) → i < length names
-    → map text_of (take (i + 1) names) ≡ map text_of (take i names) ++ text_of (get_or names i d) ∷ []
-texts_more text_of names i d within =
-    ap (map text_of) (take_more names i d within) ∙ map_push text_of (take i names) (get_or names i d)
-
 -- a list with one name more
 pub listed_more : {X : Type 0} (text_of : X → List ℕ) (names : List X) (i : ℕ) (d : X) → i < length names
     → with_listed (listed (map quoted (map text_of (take i names)))) (quoted (text_of (get_or names i d)))
@@ -70,7 +64,7 @@ pub listed_more : {X : Type 0} (text_of : X → List ℕ) (names : List X) (i : 
 listed_more text_of names i d within =
     let before = map text_of (take i names) in
     let name = text_of (get_or names i d) in
-    sym (ap (λ (l : List (List ℕ)). listed (map quoted l)) (texts_more text_of names i d within)
+    sym (ap (λ (l : List (List ℕ)). listed (map quoted l)) (map_more text_of names i d within)
     ∙ ap (fold with_listed []) (map_push quoted before name)
     ∙ fold-append with_listed [] (map quoted before) (quoted name ∷ []))
 
@@ -86,7 +80,7 @@ nearer_so_far text_of word names i d best after fewest least count within is was
     subst (λ (n : ℕ). n < fewest_by word (option_map text_of best)) is (subst (λ (n : ℕ). count < n) was fewer) in
     let more = nearer word (map text_of (take i names)) (option_map text_of best) name less found in
     rw now (
-      subst (λ (l : List (List ℕ)). IsBest word l (Some name)) (sym (texts_more text_of names i d within)) more,
+      subst (λ (l : List (List ℕ)). IsBest word l (Some name)) (sym (map_more text_of names i d within)) more,
       least_is ∙ is,
     )
 
@@ -102,6 +96,6 @@ no_nearer_so_far text_of word names i d best after fewest least count within is 
     subst (λ (n : ℕ). fewest_by word (option_map text_of best) ≤ n) is (subst (λ (n : ℕ). n ≤ count) was many) in
     let more = no_nearer word (map text_of (take i names)) (option_map text_of best) name enough found in
     rw now (
-      subst (λ (l : List (List ℕ)). IsBest word l (option_map text_of best)) (sym (texts_more text_of names i d within)) more,
+      subst (λ (l : List (List ℕ)). IsBest word l (option_map text_of best)) (sym (map_more text_of names i d within)) more,
       least_is ∙ was,
     )

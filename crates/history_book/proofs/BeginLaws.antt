@@ -9,6 +9,7 @@ use Rattle.std.specs.Ordering.{nat_cmp}
 use Rattle.std.proofs.lemmas.Bool.Decides.{nat_tests, leb_tells}
 use Rattle.std.proofs.lemmas.List.Elements.{All-weaker}
 use Rattle.std.proofs.lemmas.Option.{slice_get-map}
+use Rattle.std.proofs.lemmas.Bool.{eq-eqb, ltb-false}
 use Rattle.prog_tree.specs.declared.program.Program.{Program}
 use Rattle.prog_tree.specs.Number.{IsI64}
 use Rattle.prog_tree.specs.Syntax.{ProgramTree}
@@ -20,7 +21,6 @@ use Rattle.history_book.specs.declared.fault.BeginFault.{BeginFault}
 use Rattle.history_book.specs.declared.fault.BeginFault.TheVariants as begin
 use Rattle.history_book.proofs.ActiveLaws.{Entry, insert_last}
 use Rattle.history_book.proofs.BookLaws.{true-begin}
-use Rattle.history_book.proofs.TestLaws.{eq_tells, lt_not}
 
 -- ---- what is wrong with a begin
 
@@ -29,7 +29,7 @@ pub fault_found : (v : BookView) (start : ℕ) (found : Option Program) (p : Pro
     fault_at v start found args ≡ option_or (start_fault v start) (full_fault v)
 fault_found v start found p args is same =
     ap (λ (f : Option Program). fault_at v start f args) is
-    ∙ ap (λ b. if not b then Some begin.WrongArguments else option_or (start_fault v start) (full_fault v)) (eq_tells (length p.params.items) (length args) same)
+    ∙ ap (λ b. if not b then Some begin.WrongArguments else option_or (start_fault v start) (full_fault v)) (eq-eqb (length p.params.items) (length args) same)
 
 -- ---- a begin that nothing is wrong with
 
@@ -50,13 +50,13 @@ allowed v start program args none = go (slice_get v.set.programs.items program) 
     by_commits : (b : Bool) → nat_lt (length v.rows) start ≡ b → option_or (cond b (Some (begin.TooNew (length v.rows))) None) (full_fault v) ≡ None →
         (start ≤ length v.rows) × (is_full v ≡ false)
     by_commits true is h = absurd (cc)
-    by_commits false is h = (lt_not (length v.rows) start is, by_room (is_full v) refl h)
+    by_commits false is h = (ltb-false (length v.rows) start is, by_room (is_full v) refl h)
 
     by_floor : (b : Bool) → nat_lt start v.floor ≡ b →
         option_or (cond b (Some (begin.TooOld v.floor)) (cond (nat_lt (length v.rows) start) (Some (begin.TooNew (length v.rows))) None)) (full_fault v) ≡ None →
         (v.floor ≤ start) × (start ≤ length v.rows) × (is_full v ≡ false)
     by_floor true is h = absurd (cc)
-    by_floor false is h = let rest = by_commits (nat_lt (length v.rows) start) refl h in (lt_not start v.floor is, rest.0, rest.1)
+    by_floor false is h = let rest = by_commits (nat_lt (length v.rows) start) refl h in (ltb-false start v.floor is, rest.0, rest.1)
 
     by_length : (p : Program) → slice_get v.set.programs.items program ≡ Some p → (b : Bool) → (length p.params.items == length args) ≡ b →
         cond (not b) (Some begin.WrongArguments) (option_or (start_fault v start) (full_fault v)) ≡ None → IsAllowed v start program args

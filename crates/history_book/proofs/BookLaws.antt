@@ -8,7 +8,7 @@ use Rattle.std.specs.Map.{keys_of, lookup}
 use Rattle.std.specs.Cmp.{nat_cmp_is}
 use Rattle.std.specs.Ordering.{nat_cmp, is_eq}
 use Rattle.std.specs.declared.cmp.Ordering.TheVariants.{Equal}
-use Rattle.std.proofs.lemmas.List.{length-append, length-map, map-append}
+use Rattle.std.proofs.lemmas.List.{length-append, length-map, map-append, append-nil}
 use Rattle.std.proofs.lemmas.List.Elements.{All-push, All-weaker}
 use Rattle.prog_tree.specs.declared.program.Draft.{Draft}
 use Rattle.prog_tree.specs.ChangeSet.{ChangeSet}
@@ -86,7 +86,7 @@ true-ended v number e endings active book found this none more is by_number =
       lawful = book.lawful;
       rows = book.rows;
       endings = subst (All P) (sym more) (All-push P v.endings e book.endings this);
-      numbered = ap committed more ∙ committed-append v.endings (e ∷ []) ∙ ap (λ ns. committed v.endings ++ ns) none ∙ nil_right (committed v.endings) ∙ book.numbered;
+      numbered = ap committed more ∙ committed-append v.endings (e ∷ []) ∙ ap (λ ns. committed v.endings ++ ns) none ∙ append-nil (committed v.endings) ∙ book.numbered;
       active =
           All-weaker (IsTrueActive (record v { active = active })) (IsTrueActive new)
           (λ entry old. record { called = old.called; floor = old.floor; start = old.start; number = old.number }) active rest.active;
@@ -94,10 +94,6 @@ true-ended v number e endings active book found this none more is by_number =
       floor = book.floor;
       few = still_few v.endings endings e v.active active number book.few found more is;
     }
-  where
-    nil_right : (ns : List ℕ) → ns ++ [] ≡ ns
-    nil_right [] = refl
-    nil_right (n ∷ ns) = ap (λ ms. n ∷ ms) (nil_right ns)
 
 -- the history with one more row
 pub history-push : (rows : List HistoryRow) (row : HistoryRow) → history_of (rows ++ row ∷ []) ≡ history_of rows ++ instance_of row ∷ []

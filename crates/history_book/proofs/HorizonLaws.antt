@@ -1,7 +1,7 @@
 -- Numbers that are raised place by place, and how far commits stand from those that have to stand before them.
 use Rattle.std.proofs.Common.{◌≡◌, ◌∙◌, ◌==◌, ◌⊎◌, inl, inr, ℕ, zero, suc, ◌+◌, ◌<◌, ◌≤◌, max, nat_lt, true, false, ◌||◌, not, List, [], ◌∷◌, ◌++◌, length, get_or, length-append, length-set, slice_set, refl, ap, sym, subst, arith}
 use Rattle.std.specs.Prelude.{◌≢◌, nat_le, slice_index, slice_get, Some, None, Option, unwrap_or}
-use Rattle.std.proofs.lemmas.Bool.{and_parts, or_cases, cases_lt}
+use Rattle.std.proofs.lemmas.Bool.{and_parts, or_cases, cases_lt, leb-true, ltb-true}
 use Rattle.std.proofs.lemmas.Bool.Decides.{eqb_tells}
 use Rattle.std.proofs.lemmas.List.{get_or_past, get_or-set_same, get_or-set_other}
 use Rattle.std.proofs.lemmas.Option.{slice_get_cases}
@@ -9,7 +9,6 @@ use Rattle.history_book.specs.Horizons.{AreHorizons, AreLastBegun, AreRaised}
 use Rattle.history_book.specs.Orders.{IsUpTo}
 use Rattle.history_book.specs.TraceView.{TraceView}
 use Rattle.history_book.specs.Traces.{trace_at, trace_depends, changes_again, sees_change, misses_change, SeesEarlier, no_trace}
-use Rattle.history_book.proofs.TestLaws.{lt_told, le_told}
 
 -- ---- raised numbers
 
@@ -189,12 +188,12 @@ near_by traces sees i j within depends =
   where
     second : (sees_change traces i j ≡ true) ⊎ (misses_change traces i j ≡ true) → IsNear traces i j
     second (inl h) =
-        let l = le_told i (trace_at traces j).start (and_parts (nat_le i (trace_at traces j).start) _ h).0 in
+        let l = leb-true i (trace_at traces j).start (and_parts (nat_le i (trace_at traces j).start) _ h).0 in
         inl (omega (arith, l, saw_earlier traces sees j within))
-    second (inr h) = inr (lt_told (trace_at traces i).start j (and_parts (nat_lt (trace_at traces i).start j) _ h).0)
+    second (inr h) = inr (ltb-true (trace_at traces i).start j (and_parts (nat_lt (trace_at traces i).start j) _ h).0)
 
     first : (changes_again traces i j ≡ true) ⊎ ((sees_change traces i j || misses_change traces i j) ≡ true) → IsNear traces i j
-    first (inl h) = let l = lt_told i j (and_parts (nat_lt i j) _ h).0 in inl (omega (arith, l))
+    first (inl h) = let l = ltb-true i j (and_parts (nat_lt i j) _ h).0 in inl (omega (arith, l))
     first (inr h) = second (or_cases _ _ h)
 
 module _ (traces : List TraceView) (last raised : List ℕ) (sees : SeesEarlier traces) (begun : AreLastBegun traces last) (up : AreRaised last raised) where

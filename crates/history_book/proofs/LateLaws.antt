@@ -2,7 +2,7 @@
 use Rattle.std.proofs.Common.{◌≡◌, ◌∙◌, ◌≢◌, ◌⊎◌, inl, inr, ℕ, ◌+◌, ◌<◌, ◌≤◌, ◌==◌, max, nat_lt, Bool, true, false, not, ◌||◌, if◌then◌else◌, List, [], ◌∷◌, drop, length, length-set, replicate, get_or, slice_set, slice_index, refl, ap, sym, subst, arith}
 use Rattle.std.specs.Prelude.{All, nat_le}
 use Rattle.std.specs.List.{list_any}
-use Rattle.std.proofs.lemmas.Bool.{and_parts, or_cases, cases_lt, false≢true}
+use Rattle.std.proofs.lemmas.Bool.{and_parts, or_cases, cases_lt, false≢true, leb-true, ltb-false, ltb-true}
 use Rattle.std.proofs.lemmas.Bool.Decides.{eqb_tells}
 use Rattle.std.proofs.lemmas.List.{get_or-set_same, get_or-set_other, get_or-replicate, length-replicate, drop_more}
 use Rattle.std.proofs.lemmas.List.Elements.{All-cons, All-head, All-tail}
@@ -17,7 +17,7 @@ use Rattle.history_book.specs.Orders.{IsUpTo}
 use Rattle.history_book.specs.TraceView.{TraceView}
 use Rattle.history_book.specs.Traces.{changed_at, looked_at, takes_in, trace_at, trace_depends, changes_again, sees_change, misses_change, some_changed, SeesEarlier}
 use Rattle.history_book.proofs.HorizonLaws.{saw_earlier}
-use Rattle.history_book.proofs.TestLaws.{lt_told, lt_not, le_told, ne_told, PassesAmong, any_some}
+use Rattle.history_book.proofs.TestLaws.{ne_told, PassesAmong, any_some}
 
 -- ---- slots
 
@@ -130,13 +130,13 @@ late_misses traces sees i j first second depends =
     later : (sees_change traces i j ≡ true) ⊎ (misses_change traces i j ≡ true) → misses_change traces i j ≡ true
     later (inr h) = h
     later (inl h) =
-        let seen = le_told i (trace_at traces j).start (and_parts (nat_le i (trace_at traces j).start) _ h).0 in
+        let seen = leb-true i (trace_at traces j).start (and_parts (nat_le i (trace_at traces j).start) _ h).0 in
         let low = saw_earlier traces sees j (second.0, (let a = second.1 in let b = first.1 in omega (arith, a, b))) in
         let high = second.1 in
         absurd (omega (arith, seen, low, high))
 
     start : (changes_again traces i j ≡ true) ⊎ ((sees_change traces i j || misses_change traces i j) ≡ true) → misses_change traces i j ≡ true
-    start (inl h) = let up = lt_told i j (and_parts (nat_lt i j) _ h).0 in let high = second.1 in absurd (omega (arith, up, high))
+    start (inl h) = let up = ltb-true i j (and_parts (nat_lt i j) _ h).0 in let high = second.1 in absurd (omega (arith, up, high))
     start (inr h) = later (or_cases _ _ h)
 
 -- of the first commits each that missed a change of an earlier one has a mark, and the slots have their changes
@@ -173,7 +173,7 @@ no_miss traces slots count i j is changers seen within apart missed = go (any_so
     go p =
         let up = changers j p.cell (within.0, low) p.among in
         let seen_it = seen_all slots count (trace_at traces i).start j p.cell (trace_at traces i).looked low up seen p.passes in
-        let after = lt_told (trace_at traces i).start j parts.0 in
+        let after = ltb-true (trace_at traces i).start j parts.0 in
         omega (arith, seen_it, after)
 
 module _ (traces : List TraceView) (slots next : List ℕ) (late : List Bool) (count : ℕ) (marked : Bool) (sees : SeesEarlier traces) (so_far : AreLateUpTo traces slots late count) (inside : count < length traces)
@@ -328,7 +328,7 @@ tested_first traces marks next n from late some tested = go (nat_lt from n) refl
 
     go : (b : Bool) → nat_lt from n ≡ b → IsTestedBelow traces marks n (if b then from else slice_index next from)
     go true is = tested
-    go false is = λ i holder high. skipped (lt_not from n is) i holder high (cases_lt i from)
+    go false is = λ i holder high. skipped (ltb-false from n is) i holder high (cases_lt i from)
 
 -- the first to be tested from a number on is no less
 pub first_after : (traces : List TraceView) (next : List ℕ) (n from : ℕ) → AreNextLate traces next → from ≤ length traces + 1 → from ≤ first_tested next from n

@@ -6,20 +6,20 @@ use Rattle.std.proofs.lemmas.Bool.Decides.{nat_tests}
 use Rattle.std.proofs.lemmas.List.Folds.{list_any-append, list_all-map}
 use Rattle.std.proofs.lemmas.List.{length-append}
 use Rattle.std.proofs.Math.Bool.{or-true, or-false}
+use Rattle.std.proofs.lemmas.Bool.{eq-eqb, ne_eqb}
 use Rattle.history_book.specs.Orders.{is_one_of}
 use Rattle.history_book.specs.Serial.{is_each_once}
 use Rattle.history_book.proofs.NumberLists.{one-at, one-push}
 use Rattle.history_book.proofs.OrderLaws.{member_of, all-at, up_to_ranged}
 use Rattle.history_book.proofs.ForwardLaws.{long_enough, none_else}
-use Rattle.history_book.proofs.TestLaws.{eq_tells, ne_tells}
 
 -- ---- one number more
 
 more_here : (xs : List ℕ) (x m : ℕ) → x ≡ m → is_one_of (xs ++ x ∷ []) m ≡ true
-more_here xs x m same = one-push xs x m ∙ ap (λ b. is_one_of xs m || b) (eq_tells x m same) ∙ or-true (is_one_of xs m)
+more_here xs x m same = one-push xs x m ∙ ap (λ b. is_one_of xs m || b) (eq-eqb x m same) ∙ or-true (is_one_of xs m)
 
 more_elsewhere : (xs : List ℕ) (x m : ℕ) → (x ≡ m → ⊥) → is_one_of (xs ++ x ∷ []) m ≡ is_one_of xs m
-more_elsewhere xs x m other = one-push xs x m ∙ ap (λ b. is_one_of xs m || b) (ne_tells x m other) ∙ or-false (is_one_of xs m)
+more_elsewhere xs x m other = one-push xs x m ∙ ap (λ b. is_one_of xs m || b) (ne_eqb x m other) ∙ or-false (is_one_of xs m)
 
 -- a number outside the range changes no mark
 pub unmarked : (xs : List ℕ) (x a n : ℕ) → ((m : ℕ) → a ≤ m → m < a + n → x ≡ m → ⊥) → map (is_one_of xs) (range_with_len a n) ≡ map (is_one_of (xs ++ x ∷ [])) (range_with_len a n)

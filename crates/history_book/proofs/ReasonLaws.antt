@@ -3,7 +3,7 @@ use Rattle.std.proofs.Common.{◌≡◌, ◌∙◌, ◌≢◌, ◌⊎◌, inl, i
 use Rattle.std.specs.Prelude.{nat_le, find, Option, Some, None, IfSome, is_some, Contains, option_map, option_and_then}
 use Rattle.std.specs.Option.{option_or}
 use Rattle.std.specs.List.{list_any}
-use Rattle.std.proofs.lemmas.Bool.{and_from, and_parts, or_left, or_right}
+use Rattle.std.proofs.lemmas.Bool.{and_from, and_parts, or_left, or_right, le-leb, leb-true, lt-ltb, ltb-true, ne_eqb}
 use Rattle.std.proofs.lemmas.Bool.Decides.{eqb_tells}
 use Rattle.std.proofs.Math.Bool.{or_assoc}
 use Rattle.prog_tree.specs.declared.cell.Cell.{Cell}
@@ -18,7 +18,7 @@ use Rattle.history_book.specs.declared.orders.reason.OrderReason.{OrderReason}
 use Rattle.history_book.specs.declared.orders.reason.OrderReason.TheVariants as reason
 use Rattle.history_book.specs.declared.orders.trace.Sight.{Sight}
 use Rattle.history_book.specs.declared.orders.trace.Sight.TheVariants as sight
-use Rattle.history_book.proofs.TestLaws.{lt_told, le_told, lt_tells, le_tells, ne_tells, any_at}
+use Rattle.history_book.proofs.TestLaws.{any_at}
 
 -- ---- the first that passes a test
 
@@ -78,7 +78,7 @@ look_told j a b t cs n other o early are left inside same is some =
     let passes = sym (looked_found a c) ∙ ap is_some (sym this) ∙ some in
     this
     ∙ ap (option_and_then (missed_at a)) (sym (found_here (looked_at a) cs n other inside passes) ∙ left ∙ ap (find (looked_at a)) are)
-    ∙ ap (λ late. if late then option_and_then (missed_at a) (find (looked_at a) b.changed) else None) (sym (lt_tells a.start j early))
+    ∙ ap (λ late. if late then option_and_then (missed_at a) (find (looked_at a) b.changed) else None) (sym (lt-ltb a.start j early))
 
 -- a cell at which the first did not look is passed over
 pub look_passed : (a t : TraceView) (cs : List Cell) (n : ℕ) (other : Cell) (o : Option OrderReason) →
@@ -141,8 +141,8 @@ module _ (i j : ℕ) (a b : TraceView) where
     where
       go : (both : Bool) → (nat_lt i j && changed_at b c) ≡ both → (both || (nat_le i b.start && looked_at b c)) ≡ true →
           PutsBefore i j a b (if both then reason.Both c else reason.Saw c)
-      go true is h = let parts = and_parts (nat_lt i j) (changed_at b c) is in (lt_told i j parts.0, changed, parts.1)
-      go false is h = let parts = and_parts (nat_le i b.start) (looked_at b c) h in (le_told i b.start parts.0, changed, parts.1)
+      go true is h = let parts = and_parts (nat_lt i j) (changed_at b c) is in (ltb-true i j parts.0, changed, parts.1)
+      go false is h = let parts = and_parts (nat_le i b.start) (looked_at b c) h in (leb-true i b.start parts.0, changed, parts.1)
 
   by_change_puts : IfSome (by_change i j a b) (PutsBefore i j a b)
   by_change_puts =
@@ -164,7 +164,7 @@ module _ (i j : ℕ) (a b : TraceView) where
       go true is =
           chained (λ c. Contains b.changed c × (looked_at a c ≡ true)) (PutsBefore i j a b) (missed_at a) (find (looked_at a) b.changed)
           (found_in (looked_at a) b.changed)
-          (λ c h. missed_at_puts (lt_told a.start j is) c (among_contained b.changed c h.0))
+          (λ c h. missed_at_puts (ltb-true a.start j is) c (among_contained b.changed c h.0))
 
 pub told_is_reason : (traces : List TraceView) (i j : ℕ) → IfSome (told_reason traces i j) (IsReason traces i j)
 told_is_reason traces i j = go (eqb_tells i j)
@@ -272,7 +272,7 @@ looked_in t region c h = any_contained (λ s. takes_in s c) (sight.Range region 
 -- one of the two tests for a change that was missed
 missed_tells : (i j : ℕ) (a b : TraceView) (c : Cell) → a.start < j → Looked a c → Changed b c → (nat_lt a.start j && some_changed (looked_at a) b) ≡ true
 missed_tells i j a b c early looked changed =
-    and_from (nat_lt a.start j) (some_changed (looked_at a) b) (lt_tells a.start j early) (any_at (looked_at a) b.changed c changed looked)
+    and_from (nat_lt a.start j) (some_changed (looked_at a) b) (lt-ltb a.start j early) (any_at (looked_at a) b.changed c changed looked)
 
 module _ (traces : List TraceView) (i j : ℕ) where
   abbrev a : TraceView
@@ -293,17 +293,17 @@ module _ (traces : List TraceView) (i j : ℕ) where
   before_by : (r : OrderReason) → PutsBefore i j a b r → (again || (sees || misses)) ≡ true
   before_by (reason.Both c) h =
       let found = any_at (changed_at b) a.changed c h.1 h.2 in
-      or_left again (sees || misses) (and_from (nat_lt i j) (some_changed (changed_at b) a) (lt_tells i j h.0) found)
+      or_left again (sees || misses) (and_from (nat_lt i j) (some_changed (changed_at b) a) (lt-ltb i j h.0) found)
   before_by (reason.Saw c) h =
       let found = any_at (looked_at b) a.changed c h.1 h.2 in
-      or_right again (sees || misses) (or_left sees misses (and_from (nat_le i b.start) (some_changed (looked_at b) a) (le_tells i b.start h.0) found))
+      or_right again (sees || misses) (or_left sees misses (and_from (nat_le i b.start) (some_changed (looked_at b) a) (le-leb i b.start h.0) found))
   before_by (reason.Missed c) h =
       or_right again (sees || misses) (or_right sees misses (missed_tells i j a b c h.0 (looked_alone a c h.1) h.2))
   before_by (reason.MissedIn region c) h =
       or_right again (sees || misses) (or_right sees misses (missed_tells i j a b c h.0 (looked_in a region c h.1) h.2))
 
   pub reason_depends : (r : OrderReason) → IsReason traces i j r → trace_depends traces i j ≡ true
-  reason_depends r h = and_from (not (i == j)) (again || (sees || misses)) (ap not (ne_tells i j h.0)) (before_by r h.1)
+  reason_depends r h = and_from (not (i == j)) (again || (sees || misses)) (ap not (ne_eqb i j h.0)) (before_by r h.1)
 
 -- both numbers are those of commits
 pub reason_numbers : (traces : List TraceView) (i j : ℕ) (r : OrderReason) → IsReason traces i j r → (1 ≤ i) × (1 ≤ j)

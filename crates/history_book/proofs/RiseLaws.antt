@@ -3,21 +3,20 @@ use Rattle.std.proofs.Common.{◌≡◌, ◌∙◌, ◌==◌, ◌⊎◌, inl, in
 use Rattle.std.specs.Prelude.{nat_le, Option, Some, None, slice_get, IfSome, unwrap_or}
 use Rattle.std.specs.Option.{option_or}
 use Rattle.std.proofs.lemmas.Option.{slice_get_cases}
-use Rattle.std.proofs.lemmas.Bool.{or_cases, or_left, or_right}
+use Rattle.std.proofs.lemmas.Bool.{or_cases, or_left, or_right, eq-eqb, eqb-true, le-leb, leb-true, lt-ltb, ltb-true, ne_eqb}
 use Rattle.prog_tree.specs.declared.cell.Cell.{Cell}
 use Rattle.version_store.proofs.RisingLaws.{rises_more}
 use Rattle.history_book.specs.Orders.{is_one_of, IsUpTo}
 use Rattle.history_book.specs.Reduced.{RiseFrom, writers_from, writers_of, last_seen, first_missed}
 use Rattle.history_book.specs.TraceView.{TraceView}
 use Rattle.history_book.specs.Traces.{changed_at, trace_at, no_trace}
-use Rattle.history_book.proofs.TestLaws.{lt_told, lt_tells, le_told, le_tells, eq_told, eq_itself, ne_tells}
 
 pub at_least : (n : ℕ) (ms : List ℕ) (w : ℕ) → RiseFrom n ms → is_one_of ms w ≡ true → n ≤ w
 at_least n [] w rise h = absurd (cc)
 at_least n (m ∷ ms) w rise h = go (or_cases (m == w) (is_one_of ms w) h) (λ later. at_least (m + 1) ms w rise.1 later)
   where
     go : ((m == w) ≡ true) ⊎ (is_one_of ms w ≡ true) → (is_one_of ms w ≡ true → m + 1 ≤ w) → n ≤ w
-    go (inl same) rest = let is : m ≡ w = eq_told m w same in omega (arith, is, rise.0)
+    go (inl same) rest = let is : m ≡ w = eqb-true m w same in omega (arith, is, rise.0)
     go (inr later) rest = omega (arith, rest later, rise.0)
 
 not_below : (n : ℕ) (ms : List ℕ) (w : ℕ) → RiseFrom n ms → w < n → is_one_of ms w ≡ false
@@ -47,7 +46,7 @@ one_of_writers k (t ∷ ts) c zero = go (changed_at t c) refl
     same = omega arith
 
     go : (b : Bool) → changed_at t c ≡ b → is_one_of (if b then k ∷ writers_from (k + 1) ts c else writers_from (k + 1) ts c) (k + 0) ≡ changed_at t c
-    go true is = or_left (k == (k + 0)) (is_one_of (writers_from (k + 1) ts c) (k + 0)) (subst (λ n. (k == n) ≡ true) (sym same) (eq_itself k)) ∙ sym is
+    go true is = or_left (k == (k + 0)) (is_one_of (writers_from (k + 1) ts c) (k + 0)) (subst (λ n. (k == n) ≡ true) (sym same) (eq-eqb k k refl)) ∙ sym is
     go false is = not_below (k + 1) (writers_from (k + 1) ts c) (k + 0) (writers_rise (k + 1) ts c) (omega arith) ∙ sym is
 one_of_writers k (t ∷ ts) c (suc i) = go (changed_at t c) ∙ ap (is_one_of (writers_from (k + 1) ts c)) next ∙ one_of_writers (k + 1) ts c i
   where
@@ -55,7 +54,7 @@ one_of_writers k (t ∷ ts) c (suc i) = go (changed_at t c) ∙ ap (is_one_of (w
     next = omega arith
 
     go : (b : Bool) → is_one_of (if b then k ∷ writers_from (k + 1) ts c else writers_from (k + 1) ts c) (k + suc i) ≡ is_one_of (writers_from (k + 1) ts c) (k + suc i)
-    go true = ap (λ b. b || is_one_of (writers_from (k + 1) ts c) (k + suc i)) (ne_tells k (k + suc i) (λ same. omega (arith, same)))
+    go true = ap (λ b. b || is_one_of (writers_from (k + 1) ts c) (k + suc i)) (ne_eqb k (k + suc i) (λ same. omega (arith, same)))
     go false = refl
 
 module _ (traces : List TraceView) where
@@ -97,7 +96,7 @@ seen_is s (m ∷ ms) = go (last_seen s ms) (nat_le m s) refl (seen_is s ms)
   where
     go : (o : Option ℕ) (b : Bool) → nat_le m s ≡ b → IfSome o (λ w. (is_one_of ms w ≡ true) × (w ≤ s)) → IfSome (option_or o (if b then Some m else None)) (λ w. (is_one_of (m ∷ ms) w ≡ true) × (w ≤ s))
     go (Some w) b is rest = (or_right (m == w) (is_one_of ms w) rest.0, rest.1)
-    go None true is rest = (or_left (m == m) (is_one_of ms m) (eq_itself m), le_told m s is)
+    go None true is rest = (or_left (m == m) (is_one_of ms m) (eq-eqb m m refl), leb-true m s is)
     go None false is rest = tt
 
 pub missed_is : (s : ℕ) (ms : List ℕ) → IfSome (first_missed s ms) (λ w. (is_one_of ms w ≡ true) × (s < w))
@@ -105,7 +104,7 @@ missed_is s [] = tt
 missed_is s (m ∷ ms) = go (nat_lt s m) refl (first_missed s ms) (missed_is s ms)
   where
     go : (b : Bool) → nat_lt s m ≡ b → (o : Option ℕ) → IfSome o (λ w. (is_one_of ms w ≡ true) × (s < w)) → IfSome (if b then Some m else o) (λ w. (is_one_of (m ∷ ms) w ≡ true) × (s < w))
-    go true is o rest = (or_left (m == m) (is_one_of ms m) (eq_itself m), lt_told s m is)
+    go true is o rest = (or_left (m == m) (is_one_of ms m) (eq-eqb m m refl), ltb-true s m is)
     go false is None rest = tt
     go false is (Some w) rest = (or_right (m == w) (is_one_of ms w) rest.0, rest.1)
 
@@ -121,14 +120,14 @@ seen_from n s (m ∷ ms) i rise h low = go (or_cases (m == i) (is_one_of ms i) h
   where
     first : (o : Option ℕ) → last_seen s ms ≡ o → IfSome o (λ w. (is_one_of ms w ≡ true) × (w ≤ s)) → m ≡ i → SeenFrom s (m ∷ ms) i
     first None none rest same =
-        let within : nat_le m s ≡ true = le_tells m s (omega (arith, low, same)) in
+        let within : nat_le m s ≡ true = le-leb m s (omega (arith, low, same)) in
         record { last = m; is = ap (λ (o : Option ℕ). option_or o (if nat_le m s then Some m else None)) none ∙ ap (λ b. option_or None (if b then Some m else None)) within; from = omega (arith, same) }
     first (Some w) some rest same =
         let up : m + 1 ≤ w = at_least (m + 1) ms w rise.1 rest.0 in
         record { last = w; is = ap (λ (o : Option ℕ). option_or o (if nat_le m s then Some m else None)) some; from = omega (arith, same, up) }
 
     go : ((m == i) ≡ true) ⊎ (is_one_of ms i ≡ true) → (is_one_of ms i ≡ true → SeenFrom s ms i) → SeenFrom s (m ∷ ms) i
-    go (inl same) rest = first (last_seen s ms) refl (seen_is s ms) (eq_told m i same)
+    go (inl same) rest = first (last_seen s ms) refl (seen_is s ms) (eqb-true m i same)
     go (inr behind) rest =
         let found = rest behind in
         record { last = found.last; is = ap (λ (o : Option ℕ). option_or o (if nat_le m s then Some m else None)) found.is; from = found.from }
@@ -144,11 +143,11 @@ missed_to n s [] j rise h up = absurd (cc)
 missed_to n s (m ∷ ms) j rise h up = go (nat_lt s m) refl (or_cases (m == j) (is_one_of ms j) h) (λ later. missed_to (m + 1) s ms j rise.1 later up)
   where
     go : (b : Bool) → nat_lt s m ≡ b → ((m == j) ≡ true) ⊎ (is_one_of ms j ≡ true) → (is_one_of ms j ≡ true → MissedTo s ms j) → MissedTo s (m ∷ ms) j
-    go true is (inl same) rest = let eq : m ≡ j = eq_told m j same in record { first = m; is = ap (λ b. if b then Some m else first_missed s ms) is; to = omega (arith, eq) }
+    go true is (inl same) rest = let eq : m ≡ j = eqb-true m j same in record { first = m; is = ap (λ b. if b then Some m else first_missed s ms) is; to = omega (arith, eq) }
     go true is (inr behind) rest =
         let above : m + 1 ≤ j = at_least (m + 1) ms j rise.1 behind in
         record { first = m; is = ap (λ b. if b then Some m else first_missed s ms) is; to = omega (arith, above) }
-    go false is (inl same) rest = absurd (true≢false (sym (lt_tells s m (let eq : m ≡ j = eq_told m j same in omega (arith, eq, up))) ∙ is))
+    go false is (inl same) rest = absurd (true≢false (sym (lt-ltb s m (let eq : m ≡ j = eqb-true m j same in omega (arith, eq, up))) ∙ is))
     go false is (inr behind) rest =
         let found = rest behind in
         record { first = found.first; is = ap (λ b. if b then Some m else first_missed s ms) is ∙ found.is; to = found.to }

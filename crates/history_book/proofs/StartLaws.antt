@@ -12,14 +12,14 @@ use Rattle.std.specs.Ordering.{nat_cmp, ordering_then, is_eq, is_gt}
 use Rattle.std.specs.declared.cmp.Ordering.{Ordering}
 use Rattle.std.specs.declared.cmp.Ordering.TheVariants.{Less, Equal, Greater}
 use Rattle.std.proofs.lemmas.List.Elements.{All-head, All-tail}
-use Rattle.std.proofs.lemmas.Map.Keys.{sorted_head, sorted_tail}
+use Rattle.std.proofs.lemmas.Map.Keys.{sorted_head, sorted_tail, le_from_not_gt}
+use Rattle.std.proofs.lemmas.Bool.{eq-eqb, eqb-true, ltb-false, ltb-true}
 use Rattle.prog_tree.proofs.TableStates.{then_equal}
 use Rattle.history_book.specs.ActiveSet.{instance_start_cmp, is_start_of, AreInTurn, IsNoted}
 use Rattle.history_book.specs.History.{Instance}
 use Rattle.history_book.specs.View.{with_start, least_start}
 use Rattle.history_book.specs.declared.instances.active_set.InstanceStart.{InstanceStart}
 use Rattle.history_book.proofs.ActiveLaws.{Entry, least-within}
-use Rattle.history_book.proofs.TestLaws.{eq_told, eq_tells, eq_itself, lt_told, lt_not}
 
 -- ---- the order of starts
 
@@ -36,13 +36,6 @@ other_number m n apart = go (is_at (nat_cmp m) n) refl
     go : (t : Bool) → is_at (nat_cmp m) n ≡ t → is_at (nat_cmp m) n ≡ false
     go true at = absurd (apart (at_number m n at))
     go false at = at
-
-not_greater : (m n : ℕ) → is_gt (nat_cmp m n) ≡ false → m ≤ n
-not_greater m n low = go (nat_lt n m) refl
-  where
-    go : (t : Bool) → nat_lt n m ≡ t → m ≤ n
-    go false up = omega (arith, lt_not n m up)
-    go true up = absurd (true≢false (sym (ap is_gt (sym (nat_cmp_is m n Greater (lt_told n m up)))) ∙ low))
 
 -- a start that compares equal has the same parts
 same_start : (a b : InstanceStart) → is_at (instance_start_cmp a) b ≡ true → (a.start ≡ b.start) × (a.number ≡ b.number)
@@ -62,9 +55,9 @@ not_above : (a b : InstanceStart) → is_gt (instance_start_cmp a b) ≡ false �
 not_above a b low = go (nat_lt b.start a.start) refl
   where
     go : (t : Bool) → nat_lt b.start a.start ≡ t → a.start ≤ b.start
-    go false up = omega (arith, lt_not b.start a.start up)
+    go false up = omega (arith, ltb-false b.start a.start up)
     go true up =
-        let greater : nat_cmp a.start b.start ≡ Greater = sym (nat_cmp_is a.start b.start Greater (lt_told b.start a.start up)) in
+        let greater : nat_cmp a.start b.start ≡ Greater = sym (nat_cmp_is a.start b.start Greater (ltb-true b.start a.start up)) in
         absurd (true≢false (sym (ap (λ o. is_gt (ordering_then o (nat_cmp a.number b.number))) greater) ∙ low))
 
 -- ---- the start of an active instance
@@ -80,7 +73,7 @@ none_below number (e ∷ es) below = ap (λ o. cond (is_eq o) (Some e.1) (lookup
 of_first : (e : Entry) (es : List Entry) → is_start_of (e ∷ es) (start_of e) ≡ true
 of_first e es =
     ap (λ o. is_some (with_start e.1.start (cond (is_eq o) (Some e.1) (lookup (is_at (nat_cmp e.0)) es)))) (sym (nat_cmp_is e.0 e.0 Equal refl))
-    ∙ ap (λ b. is_some (if b then Some e.1 else None)) (eq_itself e.1.start)
+    ∙ ap (λ b. is_some (if b then Some e.1 else None)) (eq-eqb e.1.start e.1.start refl)
 
 of_other : (e : Entry) (es : List Entry) (b : InstanceStart) → IsStrictlySortedBy nat_cmp (keys_of (e ∷ es)) → is_start_of es b ≡ true → is_start_of (e ∷ es) b ≡ true
 of_other e es b sorted is = go (nat_cmp b.number e.0) refl
@@ -102,7 +95,7 @@ least_at_most n [] b is = absurd (cc)
 least_at_most n (e ∷ es) b is = go (is_at (nat_cmp b.number) e.0) (least_at_most n es b) is
   where
     here : (t : Bool) → (e.1.start == b.start) ≡ t → is_some (if t then Some e.1 else None) ≡ true → least_start n (e ∷ es) ≤ b.start
-    here true same found = let at : e.1.start ≡ b.start = eq_told e.1.start b.start same in omega (arith, at)
+    here true same found = let at : e.1.start ≡ b.start = eqb-true e.1.start b.start same in omega (arith, at)
     here false other found = absurd (cc)
 
     go : (t : Bool) → (is_start_of es b ≡ true → least_start n es ≤ b.start) →
@@ -130,7 +123,7 @@ start_new active after number i adds b is =
     go (is_at (nat_cmp number) b.number) refl (sym (ap (λ o. is_some (with_start b.start o)) (adds b.number)) ∙ is)
   where
     here : (t : Bool) → (i.start == b.start) ≡ t → is_some (if t then Some i else None) ≡ true → i.start ≡ b.start
-    here true same h = eq_told i.start b.start same
+    here true same h = eqb-true i.start b.start same
     here false same h = absurd (cc)
 
     go : (t : Bool) → is_at (nat_cmp number) b.number ≡ t → is_some (with_start b.start (cond t (Some i) (lookup (is_at (nat_cmp b.number)) active))) ≡ true →
@@ -144,7 +137,7 @@ start_here :
     (b : InstanceStart) → number ≡ b.number → i.start ≡ b.start → is_start_of after b ≡ true
 start_here active after number i adds b same at =
     ap (λ o. is_some (with_start b.start o)) (adds b.number ∙ ap (λ t. cond t (Some i) (lookup (is_at (nat_cmp b.number)) active)) (number_at number b.number same))
-    ∙ ap (λ t. is_some (if t then Some i else None)) (eq_tells i.start b.start at)
+    ∙ ap (λ t. is_some (if t then Some i else None)) (eq-eqb i.start b.start at)
 
 -- the number of an active instance is below what all are below
 start_below : (es : List Entry) (number : ℕ) → All (λ e. e.0 < number) es → (b : InstanceStart) → is_start_of es b ≡ true → b.number < number
@@ -203,7 +196,7 @@ one_begins active after before noted newest number i s at called are below sorte
         a.number ≤ b.number → (contains instance_start_cmp before b ≡ false) × (is_at (instance_start_cmp s) b ≡ true → nat_lt s.start newest ≡ false) → a.start ≤ b.start
     in_turn a b (inl x) (inl y) le not = omega (arith, x.1, y.1)
     in_turn a b (inr x) (inl y) le not =
-        let newer : newest ≤ s.start = lt_not s.start newest (not.1 (start_same s b (at ∙ y.1) (called ∙ y.0))) in
+        let newer : newest ≤ s.start = ltb-false s.start newest (not.1 (start_same s b (at ∙ y.1) (called ∙ y.0))) in
         let old : a.start ≤ newest = are.within a x in
         omega (arith, newer, old, at, y.1)
     in_turn a b (inl x) (inr y) le not =
@@ -244,7 +237,7 @@ one_ends active after before left newest number i s at called are had sorted dro
     among b false same h = go (is_at (nat_cmp number) b.number) refl (are.among b h)
       where
         here : (t : Bool) → (i.start == b.start) ≡ t → number ≡ b.number → is_some (if t then Some i else None) ≡ true → is_start_of after b ≡ true
-        here true e n g = absurd (true≢false (sym (start_same s b (at ∙ eq_told i.start b.start e) (called ∙ n)) ∙ same))
+        here true e n g = absurd (true≢false (sym (start_same s b (at ∙ eqb-true i.start b.start e) (called ∙ n)) ∙ same))
         here false e n g = absurd (cc)
 
         go : (t : Bool) → is_at (nat_cmp number) b.number ≡ t → is_start_of active b ≡ true → is_start_of after b ≡ true
@@ -314,7 +307,7 @@ least_lower n (e ∷ es) others newest k i low are is lowest first known = least
     go b here false h =
         let at : e.1.start ≡ i.start = ap (λ (x : Entry). x.1.start) same in
         let number : e.0 ≡ k = ap (λ (x : Entry). x.0) same in
-        let up : k ≤ b.number = not_greater k b.number (lowest b.number (some_at b.start (lookup (is_at (nat_cmp b.number)) (e ∷ es)) here)) in
+        let up : k ≤ b.number = le_from_not_gt k b.number (lowest b.number (some_at b.start (lookup (is_at (nat_cmp b.number)) (e ∷ es)) here)) in
         let later : e.1.start ≤ b.start = are.in_turn (start_of e) b (of_first e es) here (omega (arith, number, up)) h in
         omega (arith, first, at, later)
 

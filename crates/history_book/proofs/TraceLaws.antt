@@ -28,12 +28,9 @@ use Rattle.history_book.specs.declared.orders.order.OrderFault.{OrderFault}
 use Rattle.history_book.specs.declared.orders.order.OrderFault.TheVariants as fault
 use Rattle.history_book.proofs.HistoryLaws.{evaluation-push}
 use Rattle.history_book.proofs.ReducedLaws.{cycle_same}
+use Rattle.prog_check.proofs.NameLemmas.{list_any-map}
 
 -- ---- tests
-
-any_map : {X Y : Type 0} (p : Y → Bool) (f : X → Y) (xs : List X) → list_any p (map f xs) ≡ list_any (λ x. p (f x)) xs
-any_map p f [] = refl
-any_map p f (x ∷ xs) = ap (λ b. p (f x) || b) (any_map p f xs)
 
 any_same : {X : Type 0} (p q : X → Bool) (xs : List X) → ((x : X) → p x ≡ q x) → list_any p xs ≡ list_any q xs
 any_same p q xs same i = list_any (λ x. same x i) xs
@@ -44,12 +41,12 @@ takes_looks (look.Range region own rows) c = refl
 
 looked_has : (start : ℕ) (changes : ChangedCells) (looks : List Look) (c : Cell) → looked_at (trace_of start changes looks) c ≡ some_looks_at looks c
 looked_has start changes looks c =
-    any_map (λ s. takes_in s c) sight_of looks
+    list_any-map (λ s. takes_in s c) sight_of looks
     ∙ any_same (λ (l : Look). takes_in (sight_of l) c) (λ l. looks_at l c) looks (λ l. takes_looks l c)
 
 some_changes : (p q : Cell → Bool) (start : ℕ) (changes : ChangedCells) (looks : List Look) → ((c : Cell) → p c ≡ q c) → some_changed p (trace_of start changes looks) ≡ changes_some q changes
 some_changes p q start changes looks same =
-    any_same p q (cells_of changes) same ∙ any_map q (λ (e : Cell × Option ℤ). e.0) changes
+    any_same p q (cells_of changes) same ∙ list_any-map q (λ (e : Cell × Option ℤ). e.0) changes
 
 -- ---- the same dependencies
 

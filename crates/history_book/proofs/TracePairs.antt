@@ -6,7 +6,7 @@ use Rattle.std.specs.List.Sorted.{IsStrictlySortedBy}
 use Rattle.std.proofs.lemmas.List.Elements.{All-nil, All-cons}
 use Rattle.std.proofs.lemmas.Map.Keys.{sorted_tail}
 use Rattle.std.proofs.lemmas.Option.{slice_get_cases}
-use Rattle.std.proofs.lemmas.Bool.{and_from, and_parts, or_cases, or_left, or_right}
+use Rattle.std.proofs.lemmas.Bool.{and_from, and_parts, or_cases, or_left, or_right, eq-eqb, eqb-true, le-leb, lt-ltb, ne_eqb}
 use Rattle.prog_tree.specs.declared.cell.Cell.{Cell}
 use Rattle.prog_tree.specs.declared.cell.Region.{Region}
 use Rattle.prog_tree.specs.Table.{cell_cmp, Cells, cells_of, at_cell, is_same_cell}
@@ -19,7 +19,8 @@ use Rattle.history_book.specs.Traces.{takes_in, looked_at, changed_at, trace_at,
 use Rattle.history_book.specs.declared.orders.trace.Sight.{Sight}
 use Rattle.history_book.specs.declared.orders.trace.Sight.TheVariants as sight
 use Rattle.history_book.proofs.RiseLaws.{writers_rise, IsWriter, writer_changed, writer_upto, seen_is, missed_is}
-use Rattle.history_book.proofs.TestLaws.{lt_tells, le_tells, eq_told, eq_itself, ne_tells, apart_by_lt, any_at}
+use Rattle.history_book.proofs.TestLaws.{apart_by_lt, any_at}
+use Rattle.history_book.proofs.HorizonLaws.{saw_earlier}
 
 -- ---- a map of writers
 
@@ -46,7 +47,7 @@ of_writers traces m sorted has = of_writers_by traces m sorted (λ c ws found. a
 all_within : (traces : List TraceView) (c : Cell) (ws : List ℕ) → ((w : ℕ) → is_one_of ws w ≡ true → IsWriter traces c w) → AreWithin (length traces) ws
 all_within traces c [] are = All-nil _
 all_within traces c (w ∷ ws) are =
-    All-cons (IsUpTo (length traces)) w ws (writer_upto traces c w (are w (or_left (w == w) (is_one_of ws w) (eq_itself w)))) (all_within traces c ws (λ v h. are v (or_right (w == v) (is_one_of ws v) h)))
+    All-cons (IsUpTo (length traces)) w ws (writer_upto traces c w (are w (or_left (w == w) (is_one_of ws w) (eq-eqb w w refl)))) (all_within traces c ws (λ v h. are v (or_right (w == v) (is_one_of ws v) h)))
 
 pub all_rise_within : (traces : List TraceView) (m : Cells (List ℕ)) → OfWriters traces m → AllRiseWithin (length traces) m
 all_rise_within traces [] of = All-nil _
@@ -79,8 +80,8 @@ module _ (traces : List TraceView) where
     where
       go : (((i == p.0) && (j == p.1)) ≡ true) ⊎ (is_pair_among ps i j ≡ true) → (is_pair_among ps i j ≡ true → IsTold i j) → IsTold i j
       go (inl here) rest =
-          let a : i ≡ p.0 = eq_told i p.0 (and_parts (i == p.0) (j == p.1) here).0 in
-          let b : j ≡ p.1 = eq_told j p.1 (and_parts (i == p.0) (j == p.1) here).1 in
+          let a : i ≡ p.0 = eqb-true i p.0 (and_parts (i == p.0) (j == p.1) here).0 in
+          let b : j ≡ p.1 = eqb-true j p.1 (and_parts (i == p.0) (j == p.1) here).1 in
           subst (λ x. IsTold x j) (sym a) (subst (λ y. IsTold p.0 y) (sym b) each.0)
       go (inr behind) rest = rest behind
 
@@ -93,20 +94,20 @@ module _ (traces : List TraceView) where
     depends =
         and_from (not (i == j)) _ (apart_by_lt i j order)
         (or_left (changes_again traces i j) _
-        (and_from (nat_lt i j) _ (lt_tells i j order)
+        (and_from (nat_lt i j) _ (lt-ltb i j order)
         (any_at (changed_at (trace_at traces j)) (trace_at traces i).changed c (writer_changed traces c i wi) (writer_changed traces c j wj))));
   }
 
   each_successive : (c : Cell) (w : ℕ) (ws : List ℕ) → IsWriter traces c w → ((v : ℕ) → is_one_of ws v ≡ true → IsWriter traces c v) → RiseFrom (w + 1) ws → Each (successive_from w ws)
   each_successive c w [] here are rise = tt
   each_successive c w (v ∷ ws) here are rise =
-      let next = are v (or_left (v == v) (is_one_of ws v) (eq_itself v)) in
+      let next = are v (or_left (v == v) (is_one_of ws v) (eq-eqb v v refl)) in
       (write_after c w v (omega (arith, rise.0)) here next, each_successive c v ws next (λ u h. are u (or_right (v == u) (is_one_of ws u) h)) rise.1)
 
   each_successive_pairs : (c : Cell) (ws : List ℕ) → ((v : ℕ) → is_one_of ws v ≡ true → IsWriter traces c v) → RiseFrom 1 ws → Each (successive_pairs ws)
   each_successive_pairs c [] are rise = tt
   each_successive_pairs c (w ∷ ws) are rise =
-      each_successive c w ws (are w (or_left (w == w) (is_one_of ws w) (eq_itself w))) (λ u h. are u (or_right (w == u) (is_one_of ws u) h)) rise.1
+      each_successive c w ws (are w (or_left (w == w) (is_one_of ws w) (eq-eqb w w refl))) (λ u h. are u (or_right (w == u) (is_one_of ws u) h)) rise.1
 
   each_writers : (m : Cells (List ℕ)) → OfWriters traces m → Each (writers_pairs m)
   each_writers [] of = tt
@@ -135,7 +136,7 @@ module _ (traces : List TraceView) where
                 and_from (not (w == r)) _ (apart_by_lt w r low)
                 (or_right (changes_again traces w r) _
                 (or_left (sees_change traces w r) _
-                (and_from (nat_le w start) _ (le_tells w start is.1)
+                (and_from (nat_le w start) _ (le-leb w start is.1)
                 (any_at (looked_at (trace_at traces r)) (trace_at traces w).changed c (writer_changed traces c w is.0) looked))));
           },
           tt,
@@ -152,10 +153,10 @@ module _ (traces : List TraceView) where
             first = within;
             second = writer_upto traces c w is.0;
             depends =
-                and_from (not (r == w)) _ (ap not (ne_tells r w (λ same. true≢false (sym (eq_itself r) ∙ ap (λ x. x == r) same ∙ apart))))
+                and_from (not (r == w)) _ (ap not (ne_eqb r w (λ same. true≢false (sym (eq-eqb r r refl) ∙ ap (λ x. x == r) same ∙ apart))))
                 (or_right (changes_again traces r w) _
                 (or_right (sees_change traces r w) _
-                (and_from (nat_lt start w) _ (lt_tells start w is.1)
+                (and_from (nat_lt start w) _ (lt-ltb start w is.1)
                 (any_at (looked_at (trace_at traces r)) (trace_at traces w).changed c (writer_changed traces c w is.0) looked))));
           },
           tt,
@@ -214,12 +215,6 @@ module _ (traces : List TraceView) where
       go (inl s) = record { place = i; trace = s.0; is = refl; found = s.2 }
       go (inr s) = absurd (omega (arith, s.0, within.1))
 
-  early_by : SeesEarlier traces → (r : ℕ) → IsUpTo (length traces) r → (trace_at traces r).start < r
-  early_by sees r within =
-      let t = trace_of_upto r within in
-      let low : t.trace.start ≤ t.place = sees t.place t.trace t.found in
-      subst (λ n. (trace_at traces n).start < n) (sym t.is) (subst (λ (o : Option TraceView). (unwrap_or o no_trace).start < suc t.place) (sym t.found) (omega (arith, low)))
-
   upto_by_place : (i : ℕ) (t : TraceView) → slice_get traces i ≡ Some t → IsUpTo (length traces) (1 + i)
   upto_by_place i t found = go (slice_get_cases traces i).1
     where
@@ -235,4 +230,4 @@ module _ (traces : List TraceView) where
       let next : 1 + i ≡ suc i = omega arith in
       let same : trace_at traces (1 + i) ≡ t = ap (trace_at traces) next ∙ ap (λ (o : Option TraceView). unwrap_or o no_trace) found in
       subst (λ (u : TraceView). Each (sights_pairs (1 + i) u.start m u.looked)) same
-      (each_sights (early_by sees) (1 + i) within m (trace_at traces (1 + i)).looked of has (λ c h. h))))
+      (each_sights (saw_earlier traces sees) (1 + i) within m (trace_at traces (1 + i)).looked of has (λ c h. h))))

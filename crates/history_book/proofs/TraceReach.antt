@@ -2,7 +2,7 @@
 use Rattle.std.proofs.Common.{◌≡◌, ◌∙◌, ◌==◌, ◌⊎◌, inl, inr, ℕ, zero, suc, ◌+◌, ◌<◌, ◌≤◌, nat_lt, Bool, true, false, cond, ◌&&◌, ◌||◌, not, if◌then◌else◌, List, [], ◌∷◌, ◌++◌, length, refl, ap, sym, subst, arith}
 use Rattle.std.specs.Prelude.{nat_le, Option, Some, slice_get, IfSome, unwrap_or}
 use Rattle.std.specs.List.{list_any}
-use Rattle.std.proofs.lemmas.Bool.{and_from, and_parts, or_cases, or_left, or_right}
+use Rattle.std.proofs.lemmas.Bool.{and_from, and_parts, or_cases, or_left, or_right, eq-eqb, eqb-true, leb-true, ltb-true, ne_eqb}
 use Rattle.prog_tree.specs.declared.cell.Cell.{Cell}
 use Rattle.prog_tree.specs.declared.cell.Region.{Region}
 use Rattle.prog_tree.specs.Table.{Cells, at_cell, is_same_cell}
@@ -17,7 +17,7 @@ use Rattle.history_book.specs.declared.orders.trace.Sight.TheVariants as sight
 use Rattle.history_book.proofs.PairLaws.{among-append, both_pairs}
 use Rattle.history_book.proofs.RiseLaws.{at_least, writers_rise, IsWriter, changed_writer, seen_is, missed_is, seen_from, SeenFrom, missed_to, MissedTo}
 use Rattle.history_book.proofs.TracePairs.{OfWriters, Each, each_told, IsTraceOf, trace_of_upto, each_reduced}
-use Rattle.history_book.proofs.TestLaws.{lt_by, lt_told, le_told, eq_told, eq_itself, ne_tells, ne_told, any_some}
+use Rattle.history_book.proofs.TestLaws.{lt_by, ne_told, any_some}
 
 -- ---- pairs among others
 
@@ -28,7 +28,7 @@ among_second : (ps qs : Pairs) (i j : ℕ) → is_pair_among qs i j ≡ true →
 among_second ps qs i j h = among-append ps qs i j ∙ or_right (is_pair_among ps i j) (is_pair_among qs i j) h
 
 among_itself : (i j : ℕ) (ps : Pairs) → is_pair_among ((i, j) ∷ ps) i j ≡ true
-among_itself i j ps = or_left ((i == i) && (j == j)) (is_pair_among ps i j) (and_from (i == i) (j == j) (eq_itself i) (eq_itself j))
+among_itself i j ps = or_left ((i == i) && (j == j)) (is_pair_among ps i j) (and_from (i == i) (j == j) (eq-eqb i i refl) (eq-eqb j j refl))
 
 -- the pairs of the first are pairs of the second
 abbrev pub AreAmong : Pairs → (ℕ → ℕ → Bool) → Type 0
@@ -49,7 +49,7 @@ module _ (before : ℕ → ℕ → Bool) where
       first = are w v (among_itself w v (successive_from v ws))
 
       go : ((v == b) ≡ true) ⊎ (is_one_of ws b ≡ true) → (is_one_of ws b ≡ true → IsBefore before v b) → IsBefore before w b
-      go (inl same) rest = subst (λ n. IsBefore before w n) (eq_told v b same) (step w v first)
+      go (inl same) rest = subst (λ n. IsBefore before w n) (eqb-true v b same) (step w v first)
       go (inr behind) rest = steps w v b first (rest behind)
 
   successive_more : (w : ℕ) (ws : List ℕ) (i j : ℕ) → is_pair_among (successive_pairs ws) i j ≡ true → is_pair_among (successive_from w ws) i j ≡ true
@@ -65,9 +65,9 @@ module _ (before : ℕ → ℕ → Bool) where
     where
       go : ((w == a) ≡ true) ⊎ (is_one_of ws a ≡ true) → ((w == b) ≡ true) ⊎ (is_one_of ws b ≡ true) →
           (is_one_of ws a ≡ true → is_one_of ws b ≡ true → IsBefore before a b) → IsBefore before a b
-      go (inl sa) (inl sb) rest = absurd (let x : w ≡ a = eq_told w a sa in let y : w ≡ b = eq_told w b sb in omega (arith, x, y, order))
-      go (inl sa) (inr kb) rest = subst (λ n. IsBefore before n b) (eq_told w a sa) (successive_reach w ws b are kb)
-      go (inr ka) (inl sb) rest = absurd (let up : w + 1 ≤ a = at_least (w + 1) ws a rise.1 ka in let y : w ≡ b = eq_told w b sb in omega (arith, up, y, order))
+      go (inl sa) (inl sb) rest = absurd (let x : w ≡ a = eqb-true w a sa in let y : w ≡ b = eqb-true w b sb in omega (arith, x, y, order))
+      go (inl sa) (inr kb) rest = subst (λ n. IsBefore before n b) (eqb-true w a sa) (successive_reach w ws b are kb)
+      go (inr ka) (inl sb) rest = absurd (let up : w + 1 ≤ a = at_least (w + 1) ws a rise.1 ka in let y : w ≡ b = eqb-true w b sb in omega (arith, up, y, order))
       go (inr ka) (inr kb) rest = rest ka kb
 
 -- ---- where the pairs of a cell stand
@@ -158,7 +158,7 @@ module _ (traces : List TraceView) (m : Cells (List ℕ)) (has : HasWriters trac
   by_writers c i w r wi ww up last = go (i == w) refl
     where
       go : (b : Bool) → (i == w) ≡ b → IsBefore before i r
-      go true same = subst (λ n. IsBefore before n r) (sym (eq_told i w same)) (step w r last)
+      go true same = subst (λ n. IsBefore before n r) (sym (eqb-true i w same)) (step w r last)
       go false apart = before_trans before i w r (writers_chain c i w wi ww (lt_by i w up apart)) (step w r last)
 
   sees_reaches : (c : Cell) (i j : ℕ) → IsUpTo (length traces) j → IsWriter traces c i → looked_at (trace_at traces j) c ≡ true → i ≤ starts j → IsBefore before i j
@@ -196,9 +196,9 @@ module _ (traces : List TraceView) (m : Cells (List ℕ)) (has : HasWriters trac
 
           by_first : (b : Bool) → (found.first == i) ≡ b → (d : Bool) → (found.first == j) ≡ d → IsBefore before i j
           by_first true same d is =
-              let eq : found.first ≡ i = eq_told found.first i same in
-              writers_chain c i j (subst (λ n. IsWriter traces c n) eq writer.0) wj (lt_by i j (omega (arith, eq, found.to)) (ne_tells i j apart))
-          by_first false other true last = subst (λ n. IsBefore before i n) (eq_told found.first j last) (step i found.first (pair other))
+              let eq : found.first ≡ i = eqb-true found.first i same in
+              writers_chain c i j (subst (λ n. IsWriter traces c n) eq writer.0) wj (lt_by i j (omega (arith, eq, found.to)) (ne_eqb i j apart))
+          by_first false other true last = subst (λ n. IsBefore before i n) (eqb-true found.first j last) (step i found.first (pair other))
           by_first false other false behind = steps i found.first j (pair other) (writers_chain c found.first j writer.0 wj (lt_by found.first j found.to behind))
 
   pub told_reaches : (i j : ℕ) → IsUpTo (length traces) i → IsUpTo (length traces) j → trace_depends traces i j ≡ true → IsBefore before i j
@@ -211,15 +211,15 @@ module _ (traces : List TraceView) (m : Cells (List ℕ)) (has : HasWriters trac
       by_write : changes_again traces i j ≡ true → IsBefore before i j
       by_write h =
           let found = any_some (changed_at (trace_at traces j)) (trace_at traces i).changed (and_parts (nat_lt i j) _ h).1 in
-          writers_chain found.cell i j (changed_writer traces found.cell i found.among) (changed_writer traces found.cell j found.passes) (lt_told i j (and_parts (nat_lt i j) _ h).0)
+          writers_chain found.cell i j (changed_writer traces found.cell i found.among) (changed_writer traces found.cell j found.passes) (ltb-true i j (and_parts (nat_lt i j) _ h).0)
 
       by_look : (sees_change traces i j ≡ true) ⊎ (misses_change traces i j ≡ true) → IsBefore before i j
       by_look (inl h) =
           let found = any_some (looked_at (trace_at traces j)) (trace_at traces i).changed (and_parts (nat_le i (starts j)) _ h).1 in
-          sees_reaches found.cell i j wj (changed_writer traces found.cell i found.among) found.passes (le_told i (starts j) (and_parts (nat_le i (starts j)) _ h).0)
+          sees_reaches found.cell i j wj (changed_writer traces found.cell i found.among) found.passes (leb-true i (starts j) (and_parts (nat_le i (starts j)) _ h).0)
       by_look (inr h) =
           let found = any_some (looked_at (trace_at traces i)) (trace_at traces j).changed (and_parts (nat_lt (starts i) j) _ h).1 in
-          misses_reaches found.cell i j wi (changed_writer traces found.cell j found.among) found.passes (lt_told (starts i) j (and_parts (nat_lt (starts i) j) _ h).0) apart
+          misses_reaches found.cell i j wi (changed_writer traces found.cell j found.among) found.passes (ltb-true (starts i) j (and_parts (nat_lt (starts i) j) _ h).0) apart
 
       by_kind : (changes_again traces i j ≡ true) ⊎ ((sees_change traces i j || misses_change traces i j) ≡ true) → IsBefore before i j
       by_kind (inl h) = by_write h

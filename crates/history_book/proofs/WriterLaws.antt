@@ -7,13 +7,13 @@ use Rattle.std.specs.List.Sorted.{IsStrictlySortedBy}
 use Rattle.std.specs.Option.{option_or}
 use Rattle.std.proofs.lemmas.List.Elements.{All-head, All-tail}
 use Rattle.std.proofs.lemmas.Map.Keys.{sorted_tail}
+use Rattle.std.proofs.lemmas.Bool.{lt-ltb, leb-false, le-ltb, leb-true}
 use Rattle.prog_tree.specs.declared.cell.Cell.{Cell}
 use Rattle.prog_tree.specs.Table.{cell_cmp, Cells, at_cell, is_same_cell, is_cell_among}
 use Rattle.prog_tree.proofs.CellSets.{same-turned, not-behind}
 use Rattle.prog_tree.proofs.TableStates.{cell_is}
 use Rattle.version_store.proofs.RisingLaws.{cut_rest, cut_none}
 use Rattle.history_book.specs.Reduced.{numbers_at, IsAddedAt, RiseFrom, AreWithin, AllRiseWithin, IsCutBy, last_seen, first_missed}
-use Rattle.history_book.proofs.TestLaws.{not_above, is_above}
 
 -- ---- walks over the cells of a commit
 
@@ -92,10 +92,10 @@ missed_at : (n : ℕ) (ms : List ℕ) (count : ℕ) → IsCutBy n ms count → s
 missed_at n [] count cut = refl
 missed_at n (m ∷ ms) zero cut =
     let above : leb m n ≡ false = cut.1 0 0 (omega arith) (omega arith) in
-    rw (is_above n m above) refl
+    rw (lt-ltb n m (leb-false m n above)) refl
 missed_at n (m ∷ ms) (suc count) cut =
     let within : leb m n ≡ true = cut.0 0 0 (omega arith) (omega arith) in
-    rw (not_above n m within) (missed_at n ms count (cut_rest (λ (k : ℕ). k) n m ms count cut))
+    rw (le-ltb n m (leb-true m n within)) (missed_at n ms count (cut_rest (λ (k : ℕ). k) n m ms count cut))
 
 pub missed_read : (n : ℕ) (ms : List ℕ) (count : ℕ) (found : Option (Bor ℕ))
     → is_some found ≡ nat_lt count (length ms) → IfSome found (λ m. m.now ≡ get_or ms count m.now) → IsCutBy n ms count → option_copied found ≡ first_missed n ms

@@ -4,7 +4,7 @@ use Rattle.std.specs.Prelude.{All}
 use Rattle.std.proofs.Math.Bool.{or_assoc, or-false}
 use Rattle.std.proofs.lemmas.List.{take-append-drop, drop_more, take_more, append-nil}
 use Rattle.std.proofs.lemmas.List.Folds.{list_any-append}
-use Rattle.std.proofs.lemmas.List.Elements.{All-nil, All-cons, All-head, All-tail}
+use Rattle.std.proofs.lemmas.List.Elements.{All-nil, All-cons, All-head}
 use Rattle.prog_check.specs.declared.path.Path.{Path}
 use Rattle.prog_paths.specs.declared.accesses.places.Placed.{Placed}
 use Rattle.prog_paths.specs.declared.accesses.questions.Question.{Question}
@@ -25,20 +25,13 @@ use Rattle.robust_cert.specs.Telling.{telling_of, mark_with, mark_under, IsBehin
 use Rattle.robust_cert.specs.Leaving.{some_edge, some_vulnerable, Leaves, IsReady, Passes}
 use Rattle.robust_cert.specs.Sharing.{Entry}
 use Rattle.robust_cert.proofs.Cursor.{before_trans}
+use Rattle.rayon.proofs.ListFacts.{All-parts}
 
 -- ---- lists in two parts
 
-All-left : {A : Type 0} (P : A → Type 0) (xs ys : List A) → All P (xs ++ ys) → All P xs
-All-left P [] ys h = All-nil P
-All-left P (x ∷ xs) ys h = All-cons P x xs (All-head P x (xs ++ ys) h) (All-left P xs ys (All-tail P x (xs ++ ys) h))
-
-All-right : {A : Type 0} (P : A → Type 0) (xs ys : List A) → All P (xs ++ ys) → All P ys
-All-right P [] ys h = h
-All-right P (x ∷ xs) ys h = All-right P xs ys (All-tail P x (xs ++ ys) h)
-
 rise-left : (xs ys : List Question) → RiseBy numbers_of (xs ++ ys) → RiseBy numbers_of xs
 rise-left [] ys r = tt
-rise-left (x ∷ xs) ys r = (All-left (λ later. IsBefore (numbers_of x) (numbers_of later)) xs ys r.0, rise-left xs ys r.1)
+rise-left (x ∷ xs) ys r = ((All-parts (λ later. IsBefore (numbers_of x) (numbers_of later)) xs ys r.0).0, rise-left xs ys r.1)
 
 rise-right : (xs ys : List Question) → RiseBy numbers_of (xs ++ ys) → RiseBy numbers_of ys
 rise-right [] ys r = r
@@ -49,7 +42,7 @@ rise-across : (xs ys : List Question) → RiseBy numbers_of (xs ++ ys) → (k : 
 rise-across [] ys r k d lt = All-nil (λ x. IsBefore (numbers_of x) (numbers_of (get_or ys k d)))
 rise-across (x ∷ xs) ys r k d lt =
     All-cons (λ z. IsBefore (numbers_of z) (numbers_of (get_or ys k d))) x xs
-    (All-right (λ later. IsBefore (numbers_of x) (numbers_of later)) xs ys r.0 k d lt) (rise-across xs ys r.1 k d lt)
+    ((All-parts (λ later. IsBefore (numbers_of x) (numbers_of later)) xs ys r.0).1 k d lt) (rise-across xs ys r.1 k d lt)
 
 -- ---- tables
 
@@ -98,17 +91,17 @@ module _ (entries : List Entry) where
   Passes-append xs ys a b c old mid new first second = record {
     edges = Enters-append old.edges mid.edges new.edges (some_edge entries xs) (some_edge entries ys) (some_edge entries (xs ++ ys)) (λ i j. list_any-append (λ q. gives_edge i j (mark_under entries q)) xs ys) first.edges second.edges;
     vulnerable = Enters-append old.vulnerable mid.vulnerable new.vulnerable (some_vulnerable entries xs) (some_vulnerable entries ys) (some_vulnerable entries (xs ++ ys)) (λ i j. list_any-append (λ q. gives_vulnerable i j (mark_under entries q)) xs ys) first.vulnerable second.vulnerable;
-    cursor = λ q behind all. second.cursor q (first.cursor q behind (All-left (λ p. IsBefore (numbers_of p) q) xs ys all)) (All-right (λ p. IsBefore (numbers_of p) q) xs ys all);
+    cursor = λ q behind all. let parts = All-parts (λ p. IsBefore (numbers_of p) q) xs ys all in second.cursor q (first.cursor q behind parts.0) parts.1;
   }
 
   ready-left : (xs ys : List Question) (a : ℕ) → IsReady entries (xs ++ ys) a → IsReady entries xs a
-  ready-left xs ys a r = record { entries_rise = r.entries_rise; questions_rise = rise-left xs ys r.questions_rise; behind = All-left (λ q. IsBehind entries a (numbers_of q)) xs ys r.behind }
+  ready-left xs ys a r = record { entries_rise = r.entries_rise; questions_rise = rise-left xs ys r.questions_rise; behind = (All-parts (λ q. IsBehind entries a (numbers_of q)) xs ys r.behind).0 }
 
   ready-right : (xs ys : List Question) (a b : ℕ) (old new : EdgeTables) → IsReady entries (xs ++ ys) a → Passes entries xs a b old new → IsReady entries ys b
   ready-right xs ys a b old new r p = record {
     entries_rise = r.entries_rise;
     questions_rise = rise-right xs ys r.questions_rise;
-    behind = λ k d lt. p.cursor (numbers_of (get_or ys k d)) (All-right (λ q. IsBehind entries a (numbers_of q)) xs ys r.behind k d lt) (rise-across xs ys r.questions_rise k d lt);
+    behind = λ k d lt. p.cursor (numbers_of (get_or ys k d)) ((All-parts (λ q. IsBehind entries a (numbers_of q)) xs ys r.behind).1 k d lt) (rise-across xs ys r.questions_rise k d lt);
   }
 
   -- ---- what one access asks of places, one more

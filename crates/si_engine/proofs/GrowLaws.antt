@@ -1,5 +1,5 @@
 -- Grow tables in a lawful history: no row is removed, so what is there stays, and what appears was added.
-use Rattle.std.proofs.Common.{◌≡◌, ℕ, zero, suc, ◌+◌, ◌-◌, ◌<◌, ◌≤◌, true, false, List, [], ◌∷◌, ◌⊎◌, inl, inr, map, length, refl, ap, sym, subst, ◌∙◌, arith}
+use Rattle.std.proofs.Common.{◌≡◌, ℕ, zero, suc, ◌+◌, ◌-◌, ◌<◌, ◌≤◌, true, false, List, [], ◌∷◌, ◌⊎◌, inl, inr, map, length, refl, ap, sym, subst, ◌∙◌, arith, true≢false}
 use Rattle.std.specs.Prelude.{ℤ, Option, Some, None, is_some, unwrap_or, slice_get, if◌then◌else◌}
 use Rattle.std.specs.Cmp.Lexicographic.{nat_list_eq_equiv}
 use Rattle.std.proofs.lemmas.Bool.{or_parts}
@@ -66,11 +66,8 @@ found_table (Some d) h = (d, refl)
 
 removed_then : (set : DraftTree) → IsSound set → (e : Evaluation) → RemovesPlain set.tables e.changes → (c : Cell) →
     Grows set c.table → change_at e.changes c ≡ Some None → ⊥
-removed_then set sound e removes c grow gone = differ (sym named ∙ plain)
+removed_then set sound e removes c grow gone = true≢false (sym named ∙ plain)
   where
-    differ : true ≡ false → ⊥
-    differ k = cc
-
     d : (d : TableDecl) × (slice_get set.tables c.table ≡ Some d)
     d = found_table (slice_get set.tables c.table) grow
 

@@ -1,7 +1,7 @@
 -- The certificate of a table without a dangerous structure is accepted, and is that of the paths.
-use Rattle.std.proofs.Common.{◌≡◌, ℕ, ◌<◌, ◌≤◌, List, length, map, ◌⊎◌, inl, inr, subst}
+use Rattle.std.proofs.Common.{◌≡◌, ℕ, ◌<◌, ◌≤◌, List, length, map, ◌⊎◌, inl, inr}
 use Rattle.std.proofs.lemmas.Bool.{cases_lt}
-use Rattle.std.specs.Prelude.{slice_index_or, Option, None, IfNone}
+use Rattle.std.specs.Prelude.{slice_index_or, Option}
 use Rattle.prog_check.specs.declared.path.Path.{Path}
 use Rattle.prog_paths.specs.StaticGraph.{StaticEdge, IsDangerous}
 use Rattle.prog_paths.specs.Questions.{questions_of}
@@ -54,6 +54,3 @@ within n not = go (cases_lt most_questions n)
     go : (most_questions < n) ⊎ (n ≤ most_questions) → n ≤ most_questions
     go (inl l) = absurd (not l)
     go (inr l) = l
-
-pub where_none : {X : Type 0} (o : Option X) (P : Type 0) → o ≡ None → IfNone o P → P
-where_none {X = X} o P e h = subst (λ (found : Option X). IfNone found P) e h

@@ -1,7 +1,7 @@
 -- What is told of the questions that some accesses ask, and of all.
 use Rattle.std.proofs.Common.{◌≡◌, ℕ, ◌<◌, List, [], ◌∷◌, ◌++◌, get_or, length, refl, sym, subst, ◌∙◌, arith, zero, suc}
 use Rattle.std.proofs.lemmas.List.{map-append}
-use Rattle.std.proofs.lemmas.List.Elements.{All-append, All-cons, All-head, All-nil, All-tail}
+use Rattle.std.proofs.lemmas.List.Elements.{All-append, All-nil}
 use Rattle.std.proofs.lemmas.Grind.{flat_map-append}
 use Rattle.std.specs.Prelude.{All}
 use Rattle.prog_check.specs.declared.path.Path.{Path}
@@ -18,6 +18,7 @@ use Rattle.robust_cert.specs.Sharing.{HasReason, entry_told}
 use Rattle.si_repair.specs.declared.entries.ToldPart.{ToldPart}
 use Rattle.si_repair.specs.Certificates.{IsToldOf, told_by}
 use Rattle.si_repair.specs.Telling.{firsts_in}
+use Rattle.rayon.proofs.ListFacts.{All-parts}
 
 module _ (paths : List Path) (rs : List Reason) where
   -- ---- of two parts
@@ -51,20 +52,11 @@ told-stands paths judged are = StandsFor-from paths [] (All-nil (IsOnQuestion pa
 
 -- ---- the accesses of parts
 
-module _ {X : Type 0} (P : X → Type 0) where
-  front : (xs ys : List X) → All P (xs ++ ys) → All P xs
-  front [] ys h = All-nil P
-  front (x ∷ xs) ys h = All-cons P x xs (All-head P x (xs ++ ys) h) (front xs ys (All-tail P x (xs ++ ys) h))
-
-  back : (xs ys : List X) → All P (xs ++ ys) → All P ys
-  back [] ys h = h
-  back (x ∷ xs) ys h = back xs ys (All-tail P x (xs ++ ys) h)
-
 -- what holds of the accesses of all parts holds of those of one
 pub firsts-of : (P : Placed → Type 0) (parts : List ToldPart) (i : ℕ) (d : ToldPart) → i < length parts → All P (firsts_in parts) → All P (get_or parts i d).firsts.now
 firsts-of P [] i d lt h = absurd (omega (arith, lt))
-firsts-of P (p ∷ parts) zero d lt h = front P p.firsts.now (firsts_in parts) h
-firsts-of P (p ∷ parts) (suc i) d lt h = firsts-of P parts i d (omega (arith, lt)) (back P p.firsts.now (firsts_in parts) h)
+firsts-of P (p ∷ parts) zero d lt h = (All-parts P p.firsts.now (firsts_in parts) h).0
+firsts-of P (p ∷ parts) (suc i) d lt h = firsts-of P parts i d (omega (arith, lt)) (All-parts P p.firsts.now (firsts_in parts) h).1
 
 -- parts with the same accesses have the same together
 pub same_firsts : (before after : List ToldPart) → length before ≡ length after → ((k : ℕ) (d : ToldPart) → k < length after → (get_or after k d).firsts.now ≡ (get_or before k d).firsts.now) → firsts_in after ≡ firsts_in before

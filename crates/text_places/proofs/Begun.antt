@@ -1,6 +1,7 @@
 -- What begins at a place, beside the landmarks that it may be.
 use Rattle.std.proofs.Common.{◌≡◌, ◌∙◌, ◌+◌, ◌++◌, ◌&&◌, ℕ, suc, List, [], ◌∷◌, Bool, true, false, Option, None, ap, drop, length, refl, sym, if◌then◌else◌, arith}
 use Rattle.std.proofs.lemmas.List.{append-nil}
+use Rattle.std.proofs.Math.Bool.{and-true, and-false}
 use Rattle.prog_text.specs.Words.{beginning_of}
 use Rattle.prog_text.specs.declared.lexing.words.Beginning.{Beginning}
 use Rattle.text_places.specs.Landmarks.{begun_at, is_landmark, is_program, is_statement, places_before, statements_ahead}
@@ -8,19 +9,11 @@ use Rattle.text_places.specs.Reading.{short_word, stands_free}
 use Rattle.text_places.specs.declared.landmark.Landmark.TheVariants.{Program, Statement}
 use Rattle.text_places.proofs.Finding.{one_more_ahead}
 
-both-with-true : (b : Bool) → b ≡ (b && true)
-both-with-true true = refl
-both-with-true false = refl
-
-both-with-false : (b : Bool) → false ≡ (b && false)
-both-with-false true = refl
-both-with-false false = refl
-
 -- what nothing passes is passed by what begins here just where the word passes it and stands free
 tested : (test : Option Beginning → Bool) → test None ≡ false → (free : Bool) (begun : Option Beginning)
     → test (if free then begun else None) ≡ (test begun && free)
-tested test none true begun = both-with-true (test begun)
-tested test none false begun = none ∙ both-with-false (test begun)
+tested test none true begun = sym (and-true (test begun))
+tested test none false begun = none ∙ sym (and-false (test begun))
 
 is-program : (text : List ℕ) (place : ℕ) → is_program (begun_at text place) ≡ is_landmark Program text place
 is-program text place = tested is_program refl (stands_free text place) (beginning_of (short_word (drop place text)))

@@ -2,4 +2,3 @@ mod Begun
 mod Counting
 mod Finding
 mod Fronts
-pub mod Unsaid

@@ -1,9 +1,9 @@
 use Rattle.std.proofs.Common.{◌∙◌, ◌++◌, ap, string_bytes, subst}
+use Rattle.std.proofs.lemmas.Option.{MatchOption-at_none}
 use Rattle.prog_tree.specs.Tree.{draft_tree}
 use Rattle.analysis_words.specs.Left.{left_text}
 use Rattle.analysis_words.specs.Nodes.{seen, Sight}
 use Rattle.analysis_words.specs.Refusing.{LacksDanger, ShowsDanger}
-use Rattle.text_places.proofs.Unsaid.{unsaid}
 use Rattle.analysis_words.proofs.refusal.refusal_words.Goals as goal
 
 pub returns-clause-said : goal.returns-clause-said
@@ -20,4 +20,4 @@ returns-clause-said c =
 pub returns-in_default-clause-none : goal.returns-in_default-clause-none
 returns-in_default-clause-none c =
     subst (λ (s : Sight). LacksDanger s c.args.danger.now) (c.shown-shown.ensures ∙ c.in_ok-whole.ensures)
-    (unsaid _ (LacksDanger (seen c.shown-shown.result) c.args.danger.now) c.in_default.is c.in_ok-front.ensures.none)
+    (MatchOption-at_none (LacksDanger (seen c.shown-shown.result) c.args.danger.now) _ c.in_default.is c.in_ok-front.ensures.none)

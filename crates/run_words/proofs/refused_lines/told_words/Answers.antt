@@ -1,10 +1,10 @@
 use Rattle.std.proofs.Common.{◌≡◌, ◌++◌, ◌∙◌, ℕ, List, Option, ap, drop, string_bytes, subst, sym}
+use Rattle.std.proofs.lemmas.Option.{MatchOption-at_none}
 use Rattle.text_places.specs.Places.{HasNoLine}
 use Rattle.run_words.specs.EachLine.{TellsEach}
 use Rattle.run_words.specs.PartPointing.{PointsAtLineIn}
 use Rattle.run_words.specs.ToldLines.{TellsLine, told_lines}
 use Rattle.run_words.specs.declared.refusals.Refused.{Refused}
-use Rattle.text_places.proofs.Unsaid.{unsaid}
 use Rattle.run_words.proofs.refused_lines.told_words.Goals as goal
 
 pub returns-clause-said : goal.returns-clause-said
@@ -25,4 +25,4 @@ returns-clause-said c =
 
 pub returns-in_default-clause-none : goal.returns-in_default-clause-none
 returns-in_default-clause-none c =
-    unsaid _ (HasNoLine c.args.part.bytes.now c.args.first.line) c.in_default.is c.in_ok-first.ensures.none
+    MatchOption-at_none (HasNoLine c.args.part.bytes.now c.args.first.line) _ c.in_default.is c.in_ok-first.ensures.none
