@@ -90,3 +90,8 @@ module _ (paths : List Path) (edges vulnerable reach : Grid) (k : IsGraphOf path
     second = second;
     back = IsLeastWay-alike (Joins edges) (StaticEdge paths) static-joined joined-static d.z d.x d.back back;
   }
+
+-- what holds of two nodes of the paths within holds of the paths that are seen
+pub seen_at : (own seen : List Path) (P : List Path → Type 0) (x y : ℕ) → own ≡ seen → x < length seen → y < length seen → (x < length own → y < length own → P own) → P seen
+seen_at own seen P x y is p q right =
+    subst P is (right (subst (λ (l : List Path). x < length l) (sym is) p) (subst (λ (l : List Path). y < length l) (sym is) q))

@@ -27,10 +27,10 @@ use Rattle.history_book.proofs.ActiveLaws.{Entry, least-within}
 at_number : (m n : ℕ) → is_at (nat_cmp m) n ≡ true → m ≡ n
 at_number m n at = nat_cmp-IsAntisymmetric m n ((Equal-is (nat_cmp m n)).0 at)
 
-number_at : (m n : ℕ) → m ≡ n → is_at (nat_cmp m) n ≡ true
+pub number_at : (m n : ℕ) → m ≡ n → is_at (nat_cmp m) n ≡ true
 number_at m n same = ap is_eq (sym (nat_cmp_is m n Equal same))
 
-other_number : (m n : ℕ) → (m ≡ n → ⊥) → is_at (nat_cmp m) n ≡ false
+pub other_number : (m n : ℕ) → (m ≡ n → ⊥) → is_at (nat_cmp m) n ≡ false
 other_number m n apart = go (is_at (nat_cmp m) n) refl
   where
     go : (t : Bool) → is_at (nat_cmp m) n ≡ t → is_at (nat_cmp m) n ≡ false

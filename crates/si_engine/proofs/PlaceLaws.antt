@@ -1,14 +1,14 @@
 -- Laws of the places of instances: which are active, by their numbers.
-use Rattle.std.proofs.Common.{◌≡◌, ℕ, zero, suc, ◌+◌, ◌<◌, ◌==◌, min, true, false, cond, nat_lt, List, [], ◌∷◌, ◌++◌, length, set, refl, ap, sym, ◌∙◌, arith}
+use Rattle.std.proofs.Common.{◌≡◌, ℕ, zero, suc, ◌+◌, min, true, false, cond, List, [], ◌∷◌, ◌++◌, length, set, refl, ap, sym, ◌∙◌, arith}
 use Rattle.std.specs.Prelude.{slice_get, Option, Some, None}
 use Rattle.std.specs.BTreeMap.{is_at}
 use Rattle.std.specs.Map.{lookup}
 use Rattle.std.specs.Ordering.{nat_cmp}
-use Rattle.std.proofs.lemmas.Bool.Decides.{nat_tests}
 use Rattle.std.proofs.lemmas.List.{set-set, set-get_or}
 use Rattle.std.proofs.lemmas.Option.{get_or_from_slice_get}
 use Rattle.history_book.specs.View.{without}
 use Rattle.history_book.specs.View as book
+use Rattle.history_book.proofs.StartLaws.{number_at, other_number}
 use Rattle.si_engine.specs.Machine.{Active, active_of, least_start}
 use Rattle.si_engine.specs.View.{numbered}
 
@@ -34,19 +34,6 @@ pub put-back : {X : Type 0} (xs ys : List X) (i : ℕ) (x y : X) → ys ≡ set 
 put-back xs ys i x y taken = ap (λ zs. set zs i y) taken ∙ set-set xs i x y
 
 -- ---- active instances with their numbers
-
--- a number is at itself, and not at a lower one
-pub at_own : (n : ℕ) → is_at (nat_cmp n) n ≡ true
-at_own n =
-    let not_less : nat_lt n n ≡ false = grind (arith, nat_tests) in
-    let same : (n == n) ≡ true = grind (arith, nat_tests) in
-    rw (not_less, same) refl
-
-pub at_other : (n m : ℕ) → m < n → is_at (nat_cmp n) m ≡ false
-at_other n m less =
-    let not_less : nat_lt n m ≡ false = grind (arith, nat_tests) in
-    let not_same : (n == m) ≡ false = grind (arith, nat_tests) in
-    rw (not_less, not_same) refl
 
 shift : (k i : ℕ) → k + 1 + i ≡ k + suc i
 shift k i = omega arith
@@ -79,11 +66,11 @@ numbered-ends k [] i a at = absurd (cc)
 numbered-ends k (None ∷ begun) zero a at = absurd (cc)
 numbered-ends k (Some c ∷ begun) zero a at =
     let here : k + 0 ≡ k = omega arith in
-    let own : is_at (nat_cmp (k + 0)) k ≡ true = ap (λ n. is_at (nat_cmp n) k) here ∙ at_own k in
+    let own : is_at (nat_cmp (k + 0)) k ≡ true = ap (λ n. is_at (nat_cmp n) k) here ∙ number_at k k refl in
     ap (λ b. cond b (numbered (k + 1) begun) ((k, c.instance) ∷ without (k + 0) (numbered (k + 1) begun))) (sym own)
 numbered-ends k (None ∷ begun) (suc i) a at = numbered-ends (k + 1) begun i a at ∙ ap (λ n. without n (numbered (k + 1) begun)) (shift k i)
 numbered-ends k (Some c ∷ begun) (suc i) a at =
-    let other : is_at (nat_cmp (k + suc i)) k ≡ false = at_other (k + suc i) k (omega arith) in
+    let other : is_at (nat_cmp (k + suc i)) k ≡ false = other_number (k + suc i) k (λ e. omega (arith, e)) in
     ap (λ es. (k, c.instance) ∷ es) (numbered-ends (k + 1) begun i a at ∙ ap (λ n. without n (numbered (k + 1) begun)) (shift k i))
     ∙ ap (λ b. cond b (numbered (k + 1) begun) ((k, c.instance) ∷ without (k + suc i) (numbered (k + 1) begun))) (sym other)
 
@@ -96,12 +83,12 @@ numbered-found k (None ∷ begun) zero a at = absurd (cc)
 numbered-found k (Some c ∷ begun) zero a at =
     let one : c ≡ a = cc in
     let here : k + 0 ≡ k = omega arith in
-    let own : is_at (nat_cmp (k + 0)) k ≡ true = ap (λ n. is_at (nat_cmp n) k) here ∙ at_own k in
+    let own : is_at (nat_cmp (k + 0)) k ≡ true = ap (λ n. is_at (nat_cmp n) k) here ∙ number_at k k refl in
     ap (λ b. cond b (Some c.instance) (lookup (is_at (nat_cmp (k + 0))) (numbered (k + 1) begun))) own ∙ ap (λ (x : Active). Some x.instance) one
 numbered-found k (None ∷ begun) (suc i) a at =
     ap (λ n. lookup (is_at (nat_cmp n)) (numbered (k + 1) begun)) (sym (shift k i)) ∙ numbered-found (k + 1) begun i a at
 numbered-found k (Some c ∷ begun) (suc i) a at =
-    let other : is_at (nat_cmp (k + suc i)) k ≡ false = at_other (k + suc i) k (omega arith) in
+    let other : is_at (nat_cmp (k + suc i)) k ≡ false = other_number (k + suc i) k (λ e. omega (arith, e)) in
     ap (λ b. cond b (Some c.instance) (lookup (is_at (nat_cmp (k + suc i))) (numbered (k + 1) begun))) other
     ∙ ap (λ n. lookup (is_at (nat_cmp n)) (numbered (k + 1) begun)) (sym (shift k i))
     ∙ numbered-found (k + 1) begun i a at

@@ -11,7 +11,7 @@ use Rattle.history_book.specs.Ticket.{TicketView}
 use Rattle.history_book.specs.Runs.{withdrawn_in}
 use Rattle.history_book.specs.TrueBook.{IsTrueActive, IsTrueBook}
 use Rattle.history_book.specs.View.{BookView, active_at, with_start, next_ticket, next_instance, begun_in}
-use Rattle.si_engine.proofs.PlaceLaws.{at_other, at_own}
+use Rattle.history_book.proofs.StartLaws.{number_at, other_number}
 use Rattle.si_workers.specs.Freshness.{begun_and_withdrawn}
 
 abbrev Entry : Type 0
@@ -22,14 +22,14 @@ IsBelow k entry = entry.0 < k
 
 -- an entry that was put behind lower ones is found, and the others stay where it goes
 found-last : (es : List Entry) (k : ℕ) (i : Instance) → All (IsBelow k) es → lookup (is_at (nat_cmp k)) (es ++ (k, i) ∷ []) ≡ Some i
-found-last [] k i below = rw (at_own k) refl
+found-last [] k i below = rw (number_at k k refl) refl
 found-last (e ∷ es) k i below =
-    rw (at_other k e.0 (All-head (IsBelow k) e es below)) (found-last es k i (All-tail (IsBelow k) e es below))
+    rw (other_number k e.0 (λ same. let lower = All-head (IsBelow k) e es below in omega (arith, same, lower))) (found-last es k i (All-tail (IsBelow k) e es below))
 
 removed-last : (es : List Entry) (k : ℕ) (i : Instance) → All (IsBelow k) es → remove_entry (is_at (nat_cmp k)) (es ++ (k, i) ∷ []) ≡ es
-removed-last [] k i below = rw (at_own k) refl
+removed-last [] k i below = rw (number_at k k refl) refl
 removed-last (e ∷ es) k i below =
-    rw (at_other k e.0 (All-head (IsBelow k) e es below)) (ap (λ xs. e ∷ xs) (removed-last es k i (All-tail (IsBelow k) e es below)))
+    rw (other_number k e.0 (λ same. let lower = All-head (IsBelow k) e es below in omega (arith, same, lower))) (ap (λ xs. e ∷ xs) (removed-last es k i (All-tail (IsBelow k) e es below)))
 
 -- the active instances of a book have lower numbers than the next
 all-below : (v : BookView) → IsTrueBook v → All (IsBelow v.begun) v.active

@@ -1,15 +1,11 @@
-use Rattle.std.proofs.Common.{◌↔◌, ◌<◌, List, length, sym, subst}
+use Rattle.std.proofs.Common.{◌↔◌}
 use Rattle.std.specs.Prelude.{IsTrue}
-use Rattle.prog_check.specs.declared.path.Path.{Path}
 use Rattle.prog_paths.specs.StaticGraph.{IsVulnerable}
-use Rattle.dep_graph.proofs.Laws.{vulnerable-right}
+use Rattle.dep_graph.proofs.Laws.{vulnerable-right, seen_at}
 use Rattle.dep_graph.proofs.graph.Graph.vulnerable.Goals as goal
 
 pub returns : goal.returns
 returns c =
     let g = c.self.inside in
-    let x = c.args.x in
-    let y = c.args.y in
-    let x_inside = subst (λ (paths : List Path). x < length paths) (sym c.self.view_is) c.requires.x in
-    let y_inside = subst (λ (paths : List Path). y < length paths) (sym c.self.view_is) c.requires.y in
-    subst (λ (paths : List Path). IsTrue c.get.result ↔ IsVulnerable paths x y) c.self.view_is (vulnerable-right g.paths.now g.edges g.vulnerable g.reach c.self.invariant x y x_inside y_inside c.get.result c.get.ensures)
+    seen_at g.paths.now _ (λ paths. IsTrue c.get.result ↔ IsVulnerable paths c.args.x c.args.y) c.args.x c.args.y c.self.view_is c.requires.x c.requires.y
+    (λ x_inside y_inside. vulnerable-right g.paths.now g.edges g.vulnerable g.reach c.self.invariant c.args.x c.args.y x_inside y_inside c.get.result c.get.ensures)
