@@ -14,6 +14,7 @@ use Rattle.analysis_words.specs.declared.entry_counts.Covering.{Covering}
 use Rattle.analysis_words.specs.Nodes.{access_at}
 use Rattle.prog_paths.specs.StaticGraph.{Precedes}
 use Rattle.analysis_words.specs.Counts.{AddsCounts, CountsCovers, IsMost, IsMostAmong, apart_count, count_at, cover_count, is_apart, is_in_cover, most_count, one_if}
+use Rattle.prog_tree.proofs.Elements.{get-set_same, get-set_other}
 
 -- ---- what stands at two numbers
 
@@ -34,19 +35,6 @@ rows-more f g h (r ∷ rows) [] row other same so_far more x a = absurd (omega (
 rows-more f g h (r ∷ rows) (o ∷ others) row other same so_far more zero a = so_far 0 a
 rows-more f g h (r ∷ rows) (o ∷ others) row other same so_far more (suc x) a =
     rows-more f g h rows others row other (omega (arith, same)) (λ y b. so_far (suc y) b) more x a
-
--- an item of a list that is set
-pub get-set_same : {X : Type 0} (xs : List X) (i : ℕ) (w : X) → i < length xs → slice_get (set xs i w) i ≡ Some w
-get-set_same [] i w lt = absurd (omega (arith, lt))
-get-set_same (x ∷ xs) zero w lt = refl
-get-set_same (x ∷ xs) (suc i) w lt = get-set_same xs i w (omega (arith, lt))
-
-pub get-set_other : {X : Type 0} (xs : List X) (i j : ℕ) (w : X) → j ≢ i → slice_get (set xs i w) j ≡ slice_get xs j
-get-set_other [] i j w other = refl
-get-set_other (x ∷ xs) zero zero w other = absurd (other refl)
-get-set_other (x ∷ xs) zero (suc j) w other = refl
-get-set_other (x ∷ xs) (suc i) zero w other = refl
-get-set_other (x ∷ xs) (suc i) (suc j) w other = get-set_other xs i j w (λ e. other (ap suc e))
 
 -- an item that is read twice
 pub same-read : {X : Type 0} (xs : List X) (i : ℕ) (x y : X) → i < length xs → x ≡ get_or xs i x → y ≡ get_or xs i y → x ≡ y

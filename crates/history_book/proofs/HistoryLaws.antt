@@ -10,6 +10,7 @@ use Rattle.prog_tree.specs.ChangeSet.{ChangeSet, touches_cell}
 use Rattle.prog_tree.specs.Evaluation.{eval}
 use Rattle.prog_tree.specs.Syntax.{ProgramTree, DraftTree}
 use Rattle.prog_tree.specs.Table.{TableState}
+use Rattle.prog_tree.proofs.Elements.{get_push_cases}
 use Rattle.version_store.specs.Clash.{last_touch, IsClash}
 use Rattle.version_store.specs.Commits.{state_at}
 use Rattle.history_book.specs.History.{Instance, eval_of, commits_after, commits_of, state_after, evaluation, nth_instance, IsCalled, IsLawful}
@@ -74,17 +75,6 @@ last_touch-at c k (w ∷ ws) (suc n) v found touches =
 
 -- ---- lawful histories
 
--- an element of a list with one more is one of the list, or that one
-pub get-push : {X : Type 0} (xs : List X) (x y : X) (n : ℕ) → slice_get (xs ++ x ∷ []) n ≡ Some y → (slice_get xs n ≡ Some y) ⊎ ((n ≡ length xs) × (x ≡ y))
-get-push [] x y zero found = inr (refl, cc)
-get-push [] x y (suc n) found = absurd (cc)
-get-push (z ∷ xs) x y zero found = inl found
-get-push (z ∷ xs) x y (suc n) found = go (get-push xs x y n found)
-  where
-    go : (slice_get xs n ≡ Some y) ⊎ ((n ≡ length xs) × (x ≡ y)) → (slice_get xs n ≡ Some y) ⊎ ((suc n ≡ suc (length xs)) × (x ≡ y))
-    go (inl before) = inl before
-    go (inr here) = inr (ap suc here.0, here.1)
-
 module _ (set_of : DraftTree) (opening : TableState) where
   pub lawful-nil : IsLawful set_of opening []
   lawful-nil = record {
@@ -105,7 +95,7 @@ module _ (set_of : DraftTree) (opening : TableState) where
 
     either : (j : ℕ) (b : Instance) → nth_instance (h ++ i ∷ []) j ≡ Some b → IsEither j b
     either zero b found = absurd (cc)
-    either (suc n) b found = go (get-push h i b n found)
+    either (suc n) b found = go (get_push_cases h i b n found)
       where
         go : (slice_get h n ≡ Some b) ⊎ ((n ≡ length h) × (i ≡ b)) → IsEither (suc n) b
         go (inl old) = inl old

@@ -37,3 +37,4 @@ pub mod Edges
 pub mod Grids
 pub mod Marked
 pub mod Turned
+pub mod Rising

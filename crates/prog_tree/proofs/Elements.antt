@@ -1,12 +1,11 @@
 -- Elements of lists: at a place, behind a map, in a longer list, left of it, passing a test, and by recursion.
-use Rattle.std.proofs.Common.{◌≡◌, ◌+◌, ℕ, ◌⊎◌, inl, inr, Bool, true, List, [], ◌∷◌, ◌++◌, ◌<◌, ◌-◌, length, take, drop, map, refl, sym, subst, ap, ◌∙◌, append_assoc, append-nil, arith, zero, suc, Contains, Some}
+use Rattle.std.proofs.Common.{◌≡◌, ◌+◌, ℕ, ◌⊎◌, inl, inr, Bool, true, List, [], ◌∷◌, ◌++◌, ◌<◌, ◌≢◌, length, set, map, refl, sym, subst, ap, ◌∙◌, append_assoc, append-nil, arith, zero, suc, Contains, Some}
 use Rattle.std.specs.Prelude.{slice_get, All}
 use Rattle.std.specs.List.{list_any}
 use Rattle.std.proofs.lemmas.Bool.{false≢true, or_cases}
 use Rattle.std.proofs.lemmas.List.Elements.{All-contains}
 use Rattle.std.proofs.lemmas.List.Folds.{list_any_at}
 use Rattle.std.proofs.lemmas.Option.{none-some, same_Some, slice_get_within, get_or_from_slice_get, slice_get-get_or}
-use Rattle.std.proofs.lemmas.Grind.{common_steps}
 
 pub contains_at : {A : Type 0} (xs : List A) (n : ℕ) (x : A) → slice_get xs n ≡ Some x → Contains xs x
 contains_at xs n x at = (n, slice_get_within xs n x at, get_or_from_slice_get xs n x x at)
@@ -27,9 +26,33 @@ pub contains_only : {A : Type 0} (x y : A) → Contains (x ∷ []) y → x ≡ y
 contains_only x y (zero, inside, is) = is
 contains_only x y (suc n, inside, is) = absurd (omega (arith, inside))
 
--- of what is left behind some first elements, as many as there are
-pub take_all-drop : (xs : List ℕ) (n : ℕ) → take (length xs - n) (drop n xs) ≡ drop n xs
-take_all-drop xs n = grind (arith, common_steps)
+pub contains_nothing : {A : Type 0} (x : A) → Contains [] x → ⊥
+contains_nothing x has = let inside = has.1 in omega (arith, inside)
+
+-- an element of a list with one more is one of the list, or that one
+pub get_push_cases : {A : Type 0} (xs : List A) (x y : A) (n : ℕ) → slice_get (xs ++ x ∷ []) n ≡ Some y → (slice_get xs n ≡ Some y) ⊎ ((n ≡ length xs) × (x ≡ y))
+get_push_cases [] x y zero found = inr (refl, same_Some x y found)
+get_push_cases [] x y (suc n) found = absurd (none-some y found)
+get_push_cases (z ∷ xs) x y zero found = inl found
+get_push_cases (z ∷ xs) x y (suc n) found = go (get_push_cases xs x y n found)
+  where
+    go : (slice_get xs n ≡ Some y) ⊎ ((n ≡ length xs) × (x ≡ y)) → (slice_get xs n ≡ Some y) ⊎ ((suc n ≡ suc (length xs)) × (x ≡ y))
+    go (inl before) = inl before
+    go (inr here) = inr (ap suc here.0, here.1)
+
+-- ---- one element set
+
+pub get-set_same : {A : Type 0} (xs : List A) (n : ℕ) (x : A) → n < length xs → slice_get (set xs n x) n ≡ Some x
+get-set_same [] n x inside = absurd (omega (arith, inside))
+get-set_same (y ∷ xs) zero x inside = refl
+get-set_same (y ∷ xs) (suc n) x inside = get-set_same xs n x (omega (arith, inside))
+
+pub get-set_other : {A : Type 0} (xs : List A) (n m : ℕ) (x : A) → m ≢ n → slice_get (set xs n x) m ≡ slice_get xs m
+get-set_other [] n m x other = refl
+get-set_other (y ∷ xs) zero zero x other = absurd (other refl)
+get-set_other (y ∷ xs) zero (suc m) x other = refl
+get-set_other (y ∷ xs) (suc n) zero x other = refl
+get-set_other (y ∷ xs) (suc n) (suc m) x other = get-set_other xs n m x (λ same. other (ap suc same))
 
 -- ---- behind a map
 

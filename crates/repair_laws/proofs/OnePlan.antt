@@ -1,44 +1,20 @@
 -- A list of paths has one plan.
-use Rattle.std.proofs.Common.{◌≡◌, ℕ, ◌⊎◌, inl, inr, List, [], ◌∷◌, ◌++◌, refl, sym, subst, ◌∙◌, arith, append_assoc, Contains}
+use Rattle.std.proofs.Common.{◌≡◌, ℕ, ◌⊎◌, inl, inr, List, [], ◌∷◌, ◌++◌, refl, sym, subst, arith, append_assoc, Contains}
 use Rattle.std.proofs.lemmas.List.Elements.{Contains-append_left, Contains-append_right, Contains-append_cases, Contains-push_cases, All-contains}
 use Rattle.prog_check.specs.declared.path.Path.{Path}
 use Rattle.repair_laws.specs.declared.plan.Pair.{Pair}
 use Rattle.repair_laws.specs.Striking.{IsVulnerablePair, IsPairBefore, IsDangerousWithout}
 use Rattle.repair_laws.specs.Plans.{PairsRise, IsHeldAt, IsPlan, LawOfOnePlan}
-use Rattle.repair_laws.proofs.PlanLaws.{order_of, not_both, not_before_itself, danger-fewer}
-
-before-trans : (p q r : Pair) → IsPairBefore p q → IsPairBefore q r → IsPairBefore p r
-before-trans p q r (inl a) (inl b) = inl (omega (arith, a, b))
-before-trans p q r (inl a) (inr b) = let e = b.0 in inl (omega (arith, a, e))
-before-trans p q r (inr a) (inl b) = let e = a.0 in inl (omega (arith, e, b))
-before-trans p q r (inr a) (inr b) = let l = a.1 in let m = b.1 in inr (a.0 ∙ b.0, omega (arith, l, m))
-
-nothing : (p : Pair) → Contains [] p → ⊥
-nothing p c = let inside = c.1 in omega (arith, inside)
-
-rise-right : (ps qs : List Pair) → PairsRise (ps ++ qs) → PairsRise qs
-rise-right [] qs h = h
-rise-right (p ∷ ps) qs h = rise-right ps qs h.1
-
--- what stands in front of a pair is before it
-rise-across : (ps : List Pair) (q : Pair) (qs : List Pair) → PairsRise (ps ++ q ∷ qs) → (r : Pair) → Contains ps r → IsPairBefore r q
-rise-across [] q qs h r c = absurd (nothing r c)
-rise-across (p ∷ ps) q qs h r c = go (rise-across ps q qs h.1 r) (Contains-append_cases (p ∷ []) ps r c)
-  where
-    own : Contains {X = Pair} [] r ⊎ (p ≡ r) → IsPairBefore r q
-    own (inl n) = absurd (nothing r n)
-    own (inr e) = subst (λ (t : Pair). IsPairBefore t q) e (All-contains (IsPairBefore p) (ps ++ q ∷ qs) q h.0 (Contains-append_right ps (q ∷ qs) q (0, omega arith, refl)))
-
-    go : (Contains ps r → IsPairBefore r q) → Contains (p ∷ []) r ⊎ Contains ps r → IsPairBefore r q
-    go later (inl k) = own (Contains-push_cases [] p r k)
-    go later (inr k) = later k
+use Rattle.repair_laws.proofs.PlanLaws.{order_of, before-trans, not_both, not_before_itself, danger-fewer}
+use Rattle.prog_paths.proofs.Rising.{rises-right, rises-across}
+use Rattle.prog_tree.proofs.Elements.{contains_nothing}
 
 -- the first of some pairs that rise, or one behind it
 behind-first : (q : Pair) (qs : List Pair) → PairsRise (q ∷ qs) → (p : Pair) → IsPairBefore p q → (r : Pair) → Contains (q ∷ qs) r → IsPairBefore p r
 behind-first q qs h p before r c = go (Contains-append_cases (q ∷ []) qs r c)
   where
     own : Contains {X = Pair} [] r ⊎ (q ≡ r) → IsPairBefore p r
-    own (inl n) = absurd (nothing r n)
+    own (inl n) = absurd (contains_nothing r n)
     own (inr e) = subst (λ (t : Pair). IsPairBefore p t) e before
 
     go : Contains (q ∷ []) r ⊎ Contains qs r → IsPairBefore p r
@@ -62,7 +38,7 @@ module _ (nodes : List Path) where
           go (inr k) = absurd (not_both r p before (behind r k))
 
       misplaced : Contains first p ⊎ Contains qs p → ⊥
-      misplaced (inl k) = not_before_itself p (rise-across first p ps one.rises p k)
+      misplaced (inl k) = not_before_itself p (rises-across IsPairBefore first (p ∷ ps) p p one.rises k (0, omega arith, refl))
       misplaced (inr k) = not_before_itself p (behind p k)
 
   longer : (first : List Pair) (p : Pair) (ps : List Pair) → IsPlan nodes (first ++ p ∷ ps) → IsPlan nodes ((first ++ p ∷ []) ++ ps)
@@ -70,17 +46,17 @@ module _ (nodes : List Path) where
 
   one_rest : (first ps qs : List Pair) → IsPlan nodes (first ++ ps) → IsPlan nodes (first ++ qs) → ps ≡ qs
   one_rest first [] [] h k = refl
-  one_rest first (p ∷ ps) [] h k = absurd (skipped first ps [] p h k (λ r c. absurd (nothing r c)))
-  one_rest first [] (q ∷ qs) h k = absurd (skipped first qs [] q k h (λ r c. absurd (nothing r c)))
+  one_rest first (p ∷ ps) [] h k = absurd (skipped first ps [] p h k (λ r c. absurd (contains_nothing r c)))
+  one_rest first [] (q ∷ qs) h k = absurd (skipped first qs [] q k h (λ r c. absurd (contains_nothing r c)))
   one_rest first (p ∷ ps) (q ∷ qs) h k = go (λ e. one_rest (first ++ p ∷ []) ps qs (longer first p ps h) (moved e)) (order_of p q)
     where
       moved : p ≡ q → IsPlan nodes ((first ++ p ∷ []) ++ qs)
       moved e = subst (λ (r : Pair). IsPlan nodes ((first ++ r ∷ []) ++ qs)) (sym e) (longer first q qs k)
 
       go : (p ≡ q → ps ≡ qs) → IsPairBefore p q ⊎ (p ≡ q) ⊎ IsPairBefore q p → p ∷ ps ≡ q ∷ qs
-      go rest (inl before) = absurd (skipped first ps (q ∷ qs) p h k (behind-first q qs (rise-right first (q ∷ qs) k.rises) p before))
+      go rest (inl before) = absurd (skipped first ps (q ∷ qs) p h k (behind-first q qs (rises-right IsPairBefore first (q ∷ qs) k.rises) p before))
       go rest (inr (inl e)) = let r = rest e in λ i. e i ∷ r i
-      go rest (inr (inr before)) = absurd (skipped first qs (p ∷ ps) q k h (behind-first p ps (rise-right first (p ∷ ps) h.rises) q before))
+      go rest (inr (inr before)) = absurd (skipped first qs (p ∷ ps) q k h (behind-first p ps (rises-right IsPairBefore first (p ∷ ps) h.rises) q before))
 
 pub law_of_one_plan : LawOfOnePlan
 law_of_one_plan nodes one other is also = one_rest nodes [] one other is also

@@ -7,6 +7,7 @@ use Rattle.std.proofs.lemmas.Option.{same_Some, none-some, slice_get-get_or, sli
 use Rattle.prog_paths.specs.StaticGraph.{Precedes, QuestionNumbers}
 use Rattle.prog_paths.specs.Listing.{IsBefore, RiseBy}
 use Rattle.prog_paths.proofs.Order.{rises-at}
+use Rattle.prog_paths.proofs.Rising.{Precedes-trans, Precedes-irreflexive, Precedes-cases}
 use Rattle.robust_cert.specs.declared.checking.telling.Telling.{Telling}
 use Rattle.robust_cert.specs.declared.checking.telling.Telling as telling
 use Rattle.robust_cert.specs.declared.certificate.EntryQuestion.{EntryQuestion}
@@ -18,41 +19,21 @@ use Rattle.robust_cert.proofs.Shared.{entry_at}
 
 -- ---- the order of questions
 
-place_trans : (x a y b z c : ℕ) → Precedes x a y b → Precedes y b z c → Precedes x a z c
-place_trans x a y b z c (inl h) (inl k) = inl (omega (arith, h, k))
-place_trans x a y b z c (inl h) (inr (e, k)) = inl (omega (arith, h, e))
-place_trans x a y b z c (inr (e, h)) (inl k) = inl (omega (arith, e, k))
-place_trans x a y b z c (inr (e, h)) (inr (f, k)) = inr (e ∙ f, omega (arith, h, k))
-
-place_irreflexive : (x a : ℕ) → Precedes x a x a → ⊥
-place_irreflexive x a (inl h) = absurd (omega (arith, h))
-place_irreflexive x a (inr (e, h)) = absurd (omega (arith, h))
-
-place_cases : (x a y b : ℕ) → Precedes x a y b ⊎ (Precedes y b x a ⊎ ((x ≡ y) × (a ≡ b)))
-place_cases x a y b = go (cases_order x y) (cases_order a b)
-  where
-    go : (x ≡ y) ⊎ ((x < y) ⊎ (y < x)) → (a ≡ b) ⊎ ((a < b) ⊎ (b < a)) → Precedes x a y b ⊎ (Precedes y b x a ⊎ ((x ≡ y) × (a ≡ b)))
-    go (inr (inl h)) _ = inl (inl h)
-    go (inr (inr h)) _ = inr (inl (inl h))
-    go (inl e) (inl f) = inr (inr (e, f))
-    go (inl e) (inr (inl h)) = inl (inr (e, h))
-    go (inl e) (inr (inr h)) = inr (inl (inr (sym e, h)))
-
 pub before_trans : (p q r : QuestionNumbers) → IsBefore p q → IsBefore q r → IsBefore p r
-before_trans p q r (inl h) (inl k) = inl (place_trans p.x p.a q.x q.a r.x r.a h k)
+before_trans p q r (inl h) (inl k) = inl (Precedes-trans p.x p.a q.x q.a r.x r.a h k)
 before_trans p q r (inl h) (inr (e, f, k)) = inl (subst (λ (n : ℕ). Precedes p.x p.a r.x n) f (subst (λ (n : ℕ). Precedes p.x p.a n q.a) e h))
 before_trans p q r (inr (e, f, h)) (inl k) = inl (subst (λ (n : ℕ). Precedes p.x n r.x r.a) (sym f) (subst (λ (n : ℕ). Precedes n q.a r.x r.a) (sym e) k))
-before_trans p q r (inr (e, f, h)) (inr (g, i, k)) = inr (e ∙ g, f ∙ i, place_trans p.y p.b q.y q.b r.y r.b h k)
+before_trans p q r (inr (e, f, h)) (inr (g, i, k)) = inr (e ∙ g, f ∙ i, Precedes-trans p.y p.b q.y q.b r.y r.b h k)
 
 before_irreflexive : (p : QuestionNumbers) → IsBefore p p → ⊥
-before_irreflexive p (inl h) = place_irreflexive p.x p.a h
-before_irreflexive p (inr (e, f, h)) = place_irreflexive p.y p.b h
+before_irreflexive p (inl h) = Precedes-irreflexive p.x p.a h
+before_irreflexive p (inr (e, f, h)) = Precedes-irreflexive p.y p.b h
 
 same_numbers : (p q : QuestionNumbers) → p.x ≡ q.x → p.a ≡ q.a → p.y ≡ q.y → p.b ≡ q.b → p ≡ q
 same_numbers p q x a y b = λ i. record { x = x i; a = a i; y = y i; b = b i }
 
 before_cases : (p q : QuestionNumbers) → IsBefore p q ⊎ (IsBefore q p ⊎ (p ≡ q))
-before_cases p q = go (place_cases p.x p.a q.x q.a) (place_cases p.y p.b q.y q.b)
+before_cases p q = go (Precedes-cases p.x p.a q.x q.a) (Precedes-cases p.y p.b q.y q.b)
   where
     go : Precedes p.x p.a q.x q.a ⊎ (Precedes q.x q.a p.x p.a ⊎ ((p.x ≡ q.x) × (p.a ≡ q.a))) → Precedes p.y p.b q.y q.b ⊎ (Precedes q.y q.b p.y p.b ⊎ ((p.y ≡ q.y) × (p.b ≡ q.b))) → IsBefore p q ⊎ (IsBefore q p ⊎ (p ≡ q))
     go (inl h) _ = inl (inl h)

@@ -2,7 +2,7 @@
 use Rattle.std.proofs.Common.{◌≡◌, ℕ, ◌<◌, ◌+◌, ◌-◌, ◌↔◌, Bool, true, false, List, [], ◌∷◌, ◌++◌, length, take, get_or, refl, sym, subst, ap, ap₂, ◌∙◌, arith, zero, suc, Some}
 use Rattle.std.specs.Prelude.{slice_get, All}
 use Rattle.std.proofs.lemmas.List.{take_more, length-take-le}
-use Rattle.std.proofs.lemmas.List.Elements.{All-nil, All-cons, All-head, All-tail, All-more, All-push}
+use Rattle.std.proofs.lemmas.List.Elements.{All-nil, All-cons, All-head, All-more, All-contains}
 use Rattle.std.proofs.lemmas.Bool.{false≢true}
 use Rattle.std.proofs.lemmas.Option.{none-some}
 use Rattle.prog_check.specs.declared.path.Access.{Access}
@@ -10,6 +10,7 @@ use Rattle.prog_check.specs.declared.path.Path.{Path}
 use Rattle.prog_paths.specs.StaticGraph.{QuestionNumbers}
 use Rattle.prog_paths.specs.Questions.{IsQuestion}
 use Rattle.prog_paths.specs.Listing.{IsBefore, RiseBy}
+use Rattle.prog_paths.proofs.Rising.{rises-push}
 use Rattle.robust_cert.specs.declared.certificate.EntryQuestion.{EntryQuestion}
 use Rattle.robust_cert.specs.declared.certificate.Certificate.{Certificate}
 use Rattle.robust_cert.specs.declared.entries.Reason.{Reason}
@@ -37,13 +38,6 @@ all-before (x ∷ y ∷ rest) e rise behind =
     let first = All-head (λ later. IsBefore (question_of x) (question_of later)) y rest rise.0 in
     All-cons (λ z. IsBefore (question_of z) (question_of e)) x (y ∷ rest) (before_trans (question_of x) (question_of y) (question_of e) first (All-head (λ z. IsBefore (question_of z) (question_of e)) y rest tail)) tail
 
-rise-push : (xs : List Entry) (e : Entry) → RiseBy question_of xs → All (λ x. IsBefore (question_of x) (question_of e)) xs → RiseBy question_of (xs ++ e ∷ [])
-rise-push [] e rise all = (All-nil (λ later. IsBefore (question_of e) (question_of later)), tt)
-rise-push (x ∷ xs) e rise all = (
-  All-push (λ later. IsBefore (question_of x) (question_of later)) xs e rise.0 (All-head (λ z. IsBefore (question_of z) (question_of e)) x xs all),
-  rise-push xs e rise.1 (All-tail (λ z. IsBefore (question_of z) (question_of e)) x xs all),
-)
-
 module _ (nodes : List Path) (c : Certificate) (k : ℕ) (inside : k < length c.entries) (s : StandTo nodes c k) where
   -- one more entry stands
   pub stand-more : EntryStands nodes c.entries k → StandTo nodes c (k + 1)
@@ -56,7 +50,7 @@ module _ (nodes : List Path) (c : Certificate) (k : ℕ) (inside : k < length c.
       let whole : take k c.entries ++ e ∷ [] ≡ take (k + 1) c.entries = ap (λ (x : Entry). take k c.entries ++ x ∷ []) (sym w.2) ∙ sym (take_more c.entries k e inside) in
       record {
         size = s.size;
-        rising = subst (λ (l : List Entry). RiseBy question_of l) whole (rise-push (take k c.entries) e s.rising all);
+        rising = subst (λ (l : List Entry). RiseBy question_of l) whole (rises-push (λ (x later : Entry). IsBefore (question_of x) (question_of later)) (take k c.entries) e s.rising (λ y among. All-contains (λ (x : Entry). IsBefore (question_of x) (question_of e)) (take k c.entries) y all among));
         holds = All-more (Holds nodes) c.entries k e inside s.holds (subst (Holds nodes) (sym w.2) own.0);
       }
 

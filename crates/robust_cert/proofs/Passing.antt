@@ -4,7 +4,7 @@ use Rattle.std.specs.Prelude.{All}
 use Rattle.std.proofs.Math.Bool.{or_assoc, or-false}
 use Rattle.std.proofs.lemmas.List.{take-append-drop, drop_more, take_more, append-nil}
 use Rattle.std.proofs.lemmas.List.Folds.{list_any-append}
-use Rattle.std.proofs.lemmas.List.Elements.{All-nil, All-cons, All-head}
+use Rattle.std.proofs.lemmas.List.Elements.{All-head, Contains-get_or}
 use Rattle.prog_check.specs.declared.path.Path.{Path}
 use Rattle.prog_paths.specs.declared.accesses.places.Placed.{Placed}
 use Rattle.prog_paths.specs.declared.accesses.questions.Question.{Question}
@@ -21,6 +21,7 @@ use Rattle.robust_cert.specs.declared.checking.telling.Telling.{Telling}
 use Rattle.robust_cert.specs.Accepted.{question_of}
 use Rattle.order_facts.specs.Square.{Grid, entry, IsEmptySquare, IsSquareOf, Enters}
 use Rattle.prog_paths.specs.Marks.{gives_edge, gives_vulnerable, EntersMark}
+use Rattle.prog_paths.proofs.Rising.{rises-left, rises-right, rises-across}
 use Rattle.robust_cert.specs.Telling.{telling_of, mark_with, mark_under, IsBehind}
 use Rattle.robust_cert.specs.Leaving.{some_edge, some_vulnerable, Leaves, IsReady, Passes}
 use Rattle.robust_cert.specs.Sharing.{Entry}
@@ -29,20 +30,10 @@ use Rattle.rayon.proofs.ListFacts.{All-parts}
 
 -- ---- lists in two parts
 
-rise-left : (xs ys : List Question) → RiseBy numbers_of (xs ++ ys) → RiseBy numbers_of xs
-rise-left [] ys r = tt
-rise-left (x ∷ xs) ys r = ((All-parts (λ later. IsBefore (numbers_of x) (numbers_of later)) xs ys r.0).0, rise-left xs ys r.1)
-
-rise-right : (xs ys : List Question) → RiseBy numbers_of (xs ++ ys) → RiseBy numbers_of ys
-rise-right [] ys r = r
-rise-right (x ∷ xs) ys r = rise-right xs ys r.1
-
 -- the first part stands before the second
 rise-across : (xs ys : List Question) → RiseBy numbers_of (xs ++ ys) → (k : ℕ) (d : Question) → k < length ys → All (λ x. IsBefore (numbers_of x) (numbers_of (get_or ys k d))) xs
-rise-across [] ys r k d lt = All-nil (λ x. IsBefore (numbers_of x) (numbers_of (get_or ys k d)))
-rise-across (x ∷ xs) ys r k d lt =
-    All-cons (λ z. IsBefore (numbers_of z) (numbers_of (get_or ys k d))) x xs
-    ((All-parts (λ later. IsBefore (numbers_of x) (numbers_of later)) xs ys r.0).1 k d lt) (rise-across xs ys r.1 k d lt)
+rise-across xs ys r k d lt =
+    λ j e l. rises-across (λ x later. IsBefore (numbers_of x) (numbers_of later)) xs ys (get_or xs j e) (get_or ys k d) r (Contains-get_or xs j e l) (Contains-get_or ys k d lt)
 
 -- ---- tables
 
@@ -95,12 +86,12 @@ module _ (entries : List Entry) where
   }
 
   ready-left : (xs ys : List Question) (a : ℕ) → IsReady entries (xs ++ ys) a → IsReady entries xs a
-  ready-left xs ys a r = record { entries_rise = r.entries_rise; questions_rise = rise-left xs ys r.questions_rise; behind = (All-parts (λ q. IsBehind entries a (numbers_of q)) xs ys r.behind).0 }
+  ready-left xs ys a r = record { entries_rise = r.entries_rise; questions_rise = rises-left (λ x later. IsBefore (numbers_of x) (numbers_of later)) xs ys r.questions_rise; behind = (All-parts (λ q. IsBehind entries a (numbers_of q)) xs ys r.behind).0 }
 
   ready-right : (xs ys : List Question) (a b : ℕ) (old new : EdgeTables) → IsReady entries (xs ++ ys) a → Passes entries xs a b old new → IsReady entries ys b
   ready-right xs ys a b old new r p = record {
     entries_rise = r.entries_rise;
-    questions_rise = rise-right xs ys r.questions_rise;
+    questions_rise = rises-right (λ x later. IsBefore (numbers_of x) (numbers_of later)) xs ys r.questions_rise;
     behind = λ k d lt. p.cursor (numbers_of (get_or ys k d)) ((All-parts (λ q. IsBehind entries a (numbers_of q)) xs ys r.behind).1 k d lt) (rise-across xs ys r.questions_rise k d lt);
   }
 

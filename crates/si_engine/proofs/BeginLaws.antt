@@ -11,6 +11,7 @@ use Rattle.prog_tree.specs.declared.program.Draft.{Draft}
 use Rattle.prog_tree.specs.declared.program.Program.{Program}
 use Rattle.prog_tree.specs.Tree.{draft_tree, program_tree}
 use Rattle.prog_tree.proofs.Outcomes.{on_any_err}
+use Rattle.prog_tree.proofs.Elements.{get_push_cases}
 use Rattle.prog_run.specs.Looks.{AreFound}
 use Rattle.prog_run.specs.View.{RunView, IsTrueRun, begun}
 use Rattle.history_book.specs.History.{Instance}
@@ -20,7 +21,6 @@ use Rattle.history_book.specs.View as book
 use Rattle.history_book.specs.View.{BookView, state_in, instance_of, history_of, full_fault, fault_at, begin_at_fault_of, ticket_at, begun_at}
 use Rattle.history_book.specs.declared.fault.BeginFault.{BeginFault}
 use Rattle.history_book.specs.declared.fault.BeginFault.TheVariants.{WrongArguments, TooOld, TooNew, Full}
-use Rattle.history_book.proofs.HistoryLaws.{get-push}
 use Rattle.si_engine.specs.Machine.{Active, Machine, active_of, is_full, at_begin, begin_at_by}
 use Rattle.si_engine.specs.View.{EngineView, instance_in, active_in, begun_of, machine_of, IsHeld, IsEngine, StaysOver, IsAnswerTo, MayLackMemory, Applies, numbered, answer_to, takes_memory}
 use Rattle.si_engine.specs.declared.active.ActiveRun.{ActiveRun}
@@ -181,7 +181,7 @@ module _ (v : BookView) (runs : List (Option ActiveRun)) (kept : IsEngine v runs
               ∙ ap (λ i. numbered 0 (begun_of runs) ++ (0 + length (begun_of runs), i) ∷ []) (sym fresh_instance)
               ∙ sym (numbered-push 0 (begun_of runs) (active_in fresh))
               ∙ ap (numbered 0) (sym (map-append (option_map active_in) runs (Some fresh ∷ [])));
-          held = λ n b at. held_alike v _ _ _ _ n b (go n b (get-push runs (Some fresh) (Some b) n at));
+          held = λ n b at. held_alike v _ _ _ _ n b (go n b (get_push_cases runs (Some fresh) (Some b) n at));
         })
           where
             go : (n : ℕ) (b : ActiveRun) → (slice_get runs n ≡ Some (Some b)) ⊎ ((n ≡ length runs) × (Some fresh ≡ Some b)) → IsHeld v n b

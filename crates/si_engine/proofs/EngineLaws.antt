@@ -14,6 +14,7 @@ use Rattle.prog_tree.specs.declared.deed.End.{End}
 use Rattle.prog_tree.specs.declared.deed.End.TheVariants.{Ready, Aborted}
 use Rattle.prog_tree.specs.Evaluation.{Evaluation}
 use Rattle.prog_tree.specs.Tree.{draft_tree}
+use Rattle.prog_tree.proofs.Elements.{get-set_same, get-set_other}
 use Rattle.prog_run.specs.Looks.{AreFound}
 use Rattle.history_book.specs.History.{Instance, evaluation}
 use Rattle.history_book.specs.Runs.{ended_in, withdrawn_in, committed_in}
@@ -29,7 +30,7 @@ use Rattle.si_engine.specs.declared.event.Event.{Event}
 use Rattle.si_engine.specs.declared.event.Event.TheVariants as event
 use Rattle.si_engine.specs.declared.event.Reply.{Reply}
 use Rattle.si_engine.specs.declared.event.Reply.TheVariants as reply
-use Rattle.si_engine.proofs.PlaceLaws.{get-set_same, get-set_other, set-same, put-back, numbered-stays, numbered-ends, numbered-found, least-numbered}
+use Rattle.si_engine.proofs.PlaceLaws.{set-same, put-back, numbered-stays, numbered-ends, numbered-found, least-numbered}
 
 -- ---- what an event leaves
 
@@ -153,7 +154,7 @@ module _ (v : BookView) (runs : List (Option ActiveRun)) (kept : IsEngine v runs
     where
       go : (n : ℕ) (x : ActiveRun) → slice_get (set runs i (Some b)) n ≡ Some (Some x) → (n ≡ i) ⊎ (n ≡ i → ⊥) → IsHeld v n x
       go n x there (inl here) =
-          let is : Some (Some b) ≡ Some (Some x) = sym (get-set_same runs i (Some a) (Some b) at) ∙ ap (slice_get (set runs i (Some b))) (sym here) ∙ there in
+          let is : Some (Some b) ≡ Some (Some x) = sym (get-set_same runs i (Some b) (slice_get_within runs i (Some a) at)) ∙ ap (slice_get (set runs i (Some b))) (sym here) ∙ there in
           let one : b ≡ x = cc in
           subst (IsHeld v n) one (subst (λ k. IsHeld v k b) ((kept.held i a at).place ∙ sym here) held)
       go n x there (inr other) = kept.held n x (sym (get-set_other runs i n (Some b) other) ∙ there)
@@ -174,7 +175,7 @@ module _ (v : BookView) (runs : List (Option ActiveRun)) (kept : IsEngine v runs
     where
       go : (n : ℕ) (x : ActiveRun) → slice_get (set runs i None) n ≡ Some (Some x) → (n ≡ i) ⊎ (n ≡ i → ⊥) → IsHeld v n x
       go n x there (inl here) =
-          let is : Some None ≡ Some (Some x) = sym (get-set_same runs i (Some a) None at) ∙ ap (slice_get (set runs i None)) (sym here) ∙ there in
+          let is : Some None ≡ Some (Some x) = sym (get-set_same runs i None (slice_get_within runs i (Some a) at)) ∙ ap (slice_get (set runs i None)) (sym here) ∙ there in
           absurd (cc)
       go n x there (inr other) = kept.held n x (sym (get-set_other runs i n None other) ∙ there)
 

@@ -14,18 +14,6 @@ use Rattle.si_engine.specs.View.{numbered}
 
 -- ---- lists
 
-pub get-set_same : {X : Type 0} (xs : List X) (i : ℕ) (x y : X) → slice_get xs i ≡ Some x → slice_get (set xs i y) i ≡ Some y
-get-set_same [] i x y at = absurd (cc)
-get-set_same (z ∷ xs) zero x y at = refl
-get-set_same (z ∷ xs) (suc i) x y at = get-set_same xs i x y at
-
-pub get-set_other : {X : Type 0} (xs : List X) (i j : ℕ) (y : X) → (j ≡ i → ⊥) → slice_get (set xs i y) j ≡ slice_get xs j
-get-set_other [] i j y other = refl
-get-set_other (z ∷ xs) zero zero y other = absurd (other refl)
-get-set_other (z ∷ xs) zero (suc j) y other = refl
-get-set_other (z ∷ xs) (suc i) zero y other = refl
-get-set_other (z ∷ xs) (suc i) (suc j) y other = get-set_other xs i j y (λ same. other (ap suc same))
-
 pub set-same : {X : Type 0} (xs : List X) (i : ℕ) (x : X) → slice_get xs i ≡ Some x → set xs i x ≡ xs
 set-same xs i x at = ap (set xs i) (sym (get_or_from_slice_get xs i x x at)) ∙ set-get_or xs i x
 

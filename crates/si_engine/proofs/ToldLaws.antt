@@ -15,18 +15,17 @@ use Rattle.prog_tree.specs.declared.deed.End.TheVariants as run
 use Rattle.prog_tree.specs.Evaluation.{Evaluation}
 use Rattle.prog_tree.specs.Syntax.{ProgramTree, DraftTree}
 use Rattle.prog_tree.specs.Table.{TableState}
-use Rattle.prog_tree.proofs.Elements.{get_left, get_seam, contains_itself, contains_only}
+use Rattle.prog_tree.proofs.Elements.{get_left, get_seam, contains_itself, contains_only, get_push_cases, get-set_same, get-set_other}
 use Rattle.version_store.specs.Clash.{clash_of}
 use Rattle.version_store.specs.Versions.{reclaimed}
 use Rattle.history_book.specs.History.{Instance, evaluation, commits_of}
-use Rattle.history_book.proofs.HistoryLaws.{evaluation-push, get-push}
+use Rattle.history_book.proofs.HistoryLaws.{evaluation-push}
 use Rattle.si_engine.specs.declared.event.Event.{Event}
 use Rattle.si_engine.specs.declared.event.Event.TheVariants as event
 use Rattle.si_engine.specs.declared.event.Reply.{Reply}
 use Rattle.si_engine.specs.declared.event.Reply.TheVariants as reply
 use Rattle.si_engine.specs.Headline.{Exchange, Call, call_in, IsBegunBy, IsReadyWith, IsCommittedAs, committed_at, commit_in, commits_said}
 use Rattle.si_engine.specs.Machine.{Active, Machine, new_machine, is_full, at_begin, at_end, deed_or_end, with_begun, if_active, admitted, begin_by, begin_at_by, commit_by, least_start, machine_step, replies_of, machine_after}
-use Rattle.si_engine.proofs.PlaceLaws.{get-set_same, get-set_other}
 
 -- ---- lists
 
@@ -235,7 +234,7 @@ module _ (draft : DraftTree) (opening : TableState) where
           active_at : (j : ℕ) (b : Active) → slice_get (set s.begun i p) j ≡ Some (Some b) → (j ≡ i) ⊎ (j ≡ i → ⊥) →
               IsToldActive more t j b
           active_at j b there (inl here) =
-              let now : slice_get (set s.begun i p) i ≡ Some p = get-set_same s.begun i (Some a) p at in
+              let now : slice_get (set s.begun i p) i ≡ Some p = get-set_same s.begun i p (slice_get_within s.begun i (Some a) at) in
               let is : Some p ≡ Some (Some b) = sym now ∙ ap (slice_get (set s.begun i p)) (sym here) ∙ there in
               let one : p ≡ Some b = cc in
               let goes = goes_on b one in
@@ -275,7 +274,7 @@ module _ (draft : DraftTree) (opening : TableState) where
     begun_told : IsTold (said ++ beginning ∷ []) with_one
     begun_told =
         answered said beginning s with_one told tells_nothing (begins_alone begin (call_of_instance begins) beginning.1 asks) no_commit_there refl
-        (λ i b at. active_at i b (get-push s.begun (Some (at_begin begins)) (Some b) i at))
+        (λ i b at. active_at i b (get_push_cases s.begun (Some (at_begin begins)) (Some b) i at))
         (λ i at. get_left s.begun (Some (at_begin begins) ∷ []) i None at)
         (omega (arith, length-append s.begun (Some (at_begin begins) ∷ [])))
       where
@@ -334,7 +333,7 @@ module _ (draft : DraftTree) (opening : TableState) where
     active_left : (j : ℕ) (b : Active) → slice_get (set s.begun i None) j ≡ Some (Some b) → (j ≡ i) ⊎ (j ≡ i → ⊥) →
         IsToldActive all longer_by_one j b
     active_left j b there (inl here) =
-        let now : slice_get (set s.begun i None) i ≡ Some None = get-set_same s.begun i (Some a) None at in
+        let now : slice_get (set s.begun i None) i ≡ Some None = get-set_same s.begun i None (slice_get_within s.begun i (Some a) at) in
         let is : Some None ≡ Some (Some b) = sym now ∙ ap (slice_get (set s.begun i None)) (sym here) ∙ there in
         absurd (cc)
     active_left j b there (inr other) =
@@ -343,13 +342,13 @@ module _ (draft : DraftTree) (opening : TableState) where
         (λ ready. kept said committing _ ((told.active j b was).ready ready))
 
     ended_left : (j : ℕ) → slice_get s.begun j ≡ Some None → (j ≡ i) ⊎ (j ≡ i → ⊥) → slice_get (set s.begun i None) j ≡ Some None
-    ended_left j there (inl here) = ap (slice_get (set s.begun i None)) here ∙ get-set_same s.begun i (Some a) None at
+    ended_left j there (inl here) = ap (slice_get (set s.begun i None)) here ∙ get-set_same s.begun i None (slice_get_within s.begun i (Some a) at)
     ended_left j there (inr other) = get-set_other s.begun i j None other ∙ there
 
     last_commit : (k : ℕ) → k ≡ length s.history → IsToldCommit all longer_by_one k a.instance
     last_commit k is = record {
       instance = i;
-      ended = get-set_same s.begun i (Some a) None at;
+      ended = get-set_same s.begun i None (slice_get_within s.begun i (Some a) at);
       committed =
           let number : length s.history + 1 ≡ suc k = omega (arith, is) in
           subst (λ n. IsCommittedAs all i n) number (newest said committing);
@@ -376,7 +375,7 @@ module _ (draft : DraftTree) (opening : TableState) where
     committed_told = record {
       active = λ j b there. active_left j b there (cases_eq j i);
       unborn = still_unborn said committing s longer_by_one told told_none done_same as_long (omega (arith, length-set s.begun i None));
-      commits = λ k b there. commit_at k b (get-push s.history a.instance b k there);
+      commits = λ k b there. commit_at k b (get_push_cases s.history a.instance b k there);
       numbered = λ j n there. ap (λ l. committed_at l n) commits_are ∙ number_of j n (told_before said committing _ there);
       counted =
           let one : length (commits_said said ++ i ∷ []) ≡ length (commits_said said) + 1 = omega (arith, length-append (commits_said said) (i ∷ [])) in

@@ -13,7 +13,7 @@ use Rattle.prog_paths.specs.declared.accesses.questions.Question.{Question}
 use Rattle.prog_paths.specs.Questions.{asks, numbers_of, question_between, asked_by, asked_among, questions_of}
 use Rattle.prog_paths.specs.Places.{IsAt, placed_from, all_from, accesses_by, program_from}
 use Rattle.prog_paths.proofs.Questions.{placed, all_places_stand, if_yes, asked_by-append, asked_among-append}
-use Rattle.prog_tree.proofs.Elements.{IsMember, contains_from_member, member_left, member_right, contains_only, contains_itself}
+use Rattle.prog_tree.proofs.Elements.{IsMember, contains_from_member, member_left, member_right, contains_only, contains_itself, contains_nothing}
 use Rattle.prog_paths.proofs.Membership.{asks-from_Asks, in_node}
 use Rattle.conflict_pairs.specs.Verdicts.{TellsExposed}
 use Rattle.repair_laws.specs.declared.plan.Pair.{Pair}
@@ -23,9 +23,6 @@ use Rattle.si_repair.specs.Exposed.{IsPart, AreExposed, ArePlacesOf, ArePlacesOf
 use Rattle.si_repair.proofs.Parts.{part-none, part-whole, part-append, part-contains, part-trans, part-among}
 
 -- ---- elements
-
-pub nothing : {A : Type 0} (x : A) → Contains [] x → ⊥
-nothing x c = let inside = c.1 in omega (arith, inside)
 
 -- an element among the first ones is one of the list
 pub among_first : {A : Type 0} (n : ℕ) (xs : List A) (d x : A) → n < length xs → Contains (take (n + 1) xs) x → Contains (take n xs) x ⊎ (get_or xs n d ≡ x)
@@ -50,7 +47,7 @@ own_part program n (path ∷ rest) =
     (own_or_none (path.program == program) n path.accesses) (own_part program (n + 1) rest)
 
 node_of : (n k : ℕ) (xs : List Access) (p : Placed) → Contains (placed_from n k xs) p → p.node ≡ n
-node_of n k [] p c = absurd (nothing p c)
+node_of n k [] p c = absurd (contains_nothing p c)
 node_of n k (x ∷ xs) p c = go (Contains-append_cases (placed n k x ∷ []) (placed_from n (k + 1) xs) p c) (λ i. node_of n (k + 1) xs p i)
   where
     go : Contains (placed n k x ∷ []) p ⊎ Contains (placed_from n (k + 1) xs) p → (Contains (placed_from n (k + 1) xs) p → p.node ≡ n) → p.node ≡ n
@@ -63,10 +60,10 @@ IsOwnAmong program n rest p = (i : ℕ) × (path : Path) × (slice_get rest i �
 
 of_own : (b : Bool) (n : ℕ) (xs : List Access) (p : Placed) → Contains (placed_from n 0 (if b then xs else [])) p → (b ≡ true) × (p.node ≡ n)
 of_own true n xs p c = (refl, node_of n 0 xs p c)
-of_own false n xs p c = absurd (nothing p c)
+of_own false n xs p c = absurd (contains_nothing p c)
 
 own_among : (program n : ℕ) (rest : List Path) (p : Placed) → Contains (program_from program n rest) p → IsOwnAmong program n rest p
-own_among program n [] p c = absurd (nothing p c)
+own_among program n [] p c = absurd (contains_nothing p c)
 own_among program n (path ∷ rest) p c =
     go (Contains-append_cases (placed_from n 0 (accesses_by program path)) (program_from program (n + 1) rest) p c) (λ i. own_among program (n + 1) rest p i)
   where
@@ -162,10 +159,10 @@ misses_of nodes pair e = record { misses = record { table = e.question.asked.tab
 
 module _ (nodes : List Path) where
   pub among-no_firsts : (ys : List Placed) → AreExposedAmong nodes [] ys []
-  among-no_firsts ys = record { part = refl; only = λ q c. absurd (nothing q c); each = λ x y i j e. absurd (nothing x i) }
+  among-no_firsts ys = record { part = refl; only = λ q c. absurd (contains_nothing q c); each = λ x y i j e. absurd (contains_nothing x i) }
 
   pub among-no_seconds : (xs : List Placed) → AreExposedAmong nodes xs [] []
-  among-no_seconds xs = record { part = part-none (asked_among xs []); only = λ q c. absurd (nothing q c); each = λ x y i j e. absurd (nothing y j) }
+  among-no_seconds xs = record { part = part-none (asked_among xs []); only = λ q c. absurd (contains_nothing q c); each = λ x y i j e. absurd (contains_nothing y j) }
 
   pub among-exposed : (x y : Placed) → IsExposedTo nodes x y → AreExposedAmong nodes (x ∷ []) (y ∷ []) (question_between x y ∷ [])
   among-exposed x y e = record {
@@ -177,7 +174,7 @@ module _ (nodes : List Path) where
   pub among-unexposed : (x y : Placed) → (IsExposedTo nodes x y → ⊥) → AreExposedAmong nodes (x ∷ []) (y ∷ []) []
   among-unexposed x y n = record {
     part = part-none (asked_among (x ∷ []) (y ∷ []));
-    only = λ q c. absurd (nothing q c);
+    only = λ q c. absurd (contains_nothing q c);
     each = λ v w i j h. absurd (n (subst (λ (p : Placed). IsExposedTo nodes p y) (sym (contains_only x v i)) (subst (λ (p : Placed). IsExposedTo nodes v p) (sym (contains_only y w j)) h)));
   }
 

@@ -12,12 +12,13 @@ use Rattle.prog_paths.specs.Questions.{asks, numbers_of, question_between, asked
 use Rattle.prog_paths.specs.Listing.{IsBefore, RiseBy}
 use Rattle.prog_paths.proofs.Questions.{if_yes, asked_by-append, asked_among-append}
 use Rattle.prog_paths.proofs.Order.{law_of_order}
+use Rattle.prog_paths.proofs.Rising.{rises-across}
 use Rattle.repair_laws.specs.declared.plan.Pair.{Pair}
 use Rattle.repair_laws.specs.Keys.{ExposedOf}
 use Rattle.si_repair.specs.Exposed.{IsPart, IsFirstOfExposed, IsFirstExposed, ArePlacesOf, IsExposedTo, AreExposedAmong}
-use Rattle.si_repair.proofs.Exposed.{nothing, asks-from_misses, read_of, change_of, misses_of, first_moved, more-firsts, in_firsts, in_seconds, of_pair-exposed, AreExposed-from_places}
+use Rattle.si_repair.proofs.Exposed.{asks-from_misses, read_of, change_of, misses_of, first_moved, more-firsts, in_firsts, in_seconds, of_pair-exposed, AreExposed-from_places}
 use Rattle.si_repair.proofs.Parts.{part-none, part-whole, part-append, part-contains, part-among}
-use Rattle.prog_tree.proofs.Elements.{contains_only, contains_itself}
+use Rattle.prog_tree.proofs.Elements.{contains_only, contains_itself, contains_nothing}
 
 -- ---- what rises
 
@@ -31,17 +32,6 @@ rises-part (x ∷ xs) ps r (inl h) = rises-part xs ps r.1 h
 rises-part (x ∷ xs) ps r (inr (tail, e, h)) =
     subst (λ (l : List Question). RiseBy numbers_of l) (sym e)
     (all-part (λ (later : Question). IsBefore (numbers_of x) (numbers_of later)) xs tail r.0 h, rises-part xs tail r.1 h)
-
--- one of the first stands before one of the last
-rises-across : (xs ys : List Question) (p q : Question) → RiseBy numbers_of (xs ++ ys) → Contains xs p → Contains ys q → IsBefore (numbers_of p) (numbers_of q)
-rises-across [] ys p q r i j = absurd (nothing p i)
-rises-across (x ∷ xs) ys p q r i j = go (Contains-append_cases (x ∷ []) xs p i) (λ k. rises-across xs ys p q r.1 k j)
-  where
-    go : Contains (x ∷ []) p ⊎ Contains xs p → (Contains xs p → IsBefore (numbers_of p) (numbers_of q)) → IsBefore (numbers_of p) (numbers_of q)
-    go (inl k) later =
-        subst (λ (s : Question). IsBefore (numbers_of s) (numbers_of q)) (contains_only x p k)
-        (All-contains (λ (s : Question). IsBefore (numbers_of x) (numbers_of s)) (xs ++ ys) q r.0 (Contains-append_right xs ys q j))
-    go (inr k) later = later k
 
 -- ---- what is asked
 
@@ -155,8 +145,8 @@ module _ (nodes : List Path) (pair : Pair) (xs ys : List Placed) (firsts : ArePl
 
           go : Contains (take n xs) x ⊎ Contains (drop n xs) x → (e.question.question ≡ numbers_of q) ⊎ IsBefore (numbers_of q) e.question.question
           go (inl i) = among (Contains-append_cases (q ∷ []) rest (question_between x y) (h.each x y i in_ys missed))
-          go (inr i) = inr (rises-across early late q (question_between x y) rises q_early (in_among (drop n xs) ys x y (asks-from_misses x y missed.misses) i in_ys))
+          go (inr i) = inr (rises-across (λ (s later : Question). IsBefore (numbers_of s) (numbers_of later)) early late q (question_between x y) rises q_early (in_among (drop n xs) ys x y (asks-from_misses x y missed.misses) i in_ys))
 
   pub first-from_places : (o : Option Question) → IsFirstAmong nodes xs ys o → IsFirstExposed nodes pair o
-  first-from_places None h = λ e. let one = (AreExposed-from_places nodes pair xs ys firsts seconds [] h).each e in nothing one.0 one.1
+  first-from_places None h = λ e. let one = (AreExposed-from_places nodes pair xs ys firsts seconds [] h).each e in contains_nothing one.0 one.1
   first-from_places (Some q) h = least-among h.0 q h.1 h.2

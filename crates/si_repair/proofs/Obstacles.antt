@@ -6,6 +6,7 @@ use Rattle.std.proofs.lemmas.List.{take_all, append_assoc}
 use Rattle.std.proofs.lemmas.List.Elements.{Contains-get_or}
 use Rattle.std.proofs.lemmas.Option.{slice_get_within, get_or_from_slice_get, slice_get-get_or}
 use Rattle.prog_tree.specs.Syntax.{StatementTree, BlockTree, BlockEnd, Then, Branch, Each, ProgramTree, DraftTree}
+use Rattle.prog_tree.proofs.Elements.{contains_nothing}
 use Rattle.prog_check.specs.Paths.{statement_count, paths_of}
 use Rattle.prog_check.specs.Uses.{as_count}
 use Rattle.prog_check.specs.declared.path.Access.{Access}
@@ -20,7 +21,7 @@ use Rattle.si_repair.specs.Exposed.{AreExposed, HasRead, HasBoth}
 use Rattle.si_repair.specs.Obstacles.{IsObstacle, range_list, program_ranges, Hinders, HasHindered, IsFirstHindered, IsHindered, IsRangeIn}
 use Rattle.si_repair.specs.declared.repairs.obstacles.Obstacle.{Obstacle}
 use Rattle.si_repair.specs.declared.repairs.obstacles.Obstacle.TheVariants.{RangeRead, UnknownKey, BodyRead}
-use Rattle.si_repair.proofs.Exposed.{nothing, among_first}
+use Rattle.si_repair.proofs.Exposed.{among_first}
 
 -- ---- statements
 
@@ -217,7 +218,7 @@ in_body-sure false = (λ h. refl, λ h. refl)
 
 module _ (nodes : List Path) (ranges : ℕ → Type 0) (obstacle : Obstacle) (qs : List Question) where
   pub hindered-none : HasHindered nodes ranges obstacle (take 0 qs) → ⊥
-  hindered-none h = nothing h.0 h.1
+  hindered-none h = contains_nothing h.0 h.1
 
   pub hindered-all : (n : ℕ) → length qs ≤ n → (HasHindered nodes ranges obstacle (take n qs) → ⊥) → HasHindered nodes ranges obstacle qs → ⊥
   hindered-all n le before h = before (subst (λ (l : List Question). HasHindered nodes ranges obstacle l) (sym (take_all n qs le)) h)

@@ -18,47 +18,18 @@ use Rattle.prog_paths.specs.Places.{IsAt}
 use Rattle.prog_paths.proofs.Facts.{law_of_equal_terms}
 use Rattle.prog_paths.proofs.Shown.{single_at, may_touch-second}
 use Rattle.prog_paths.proofs.Marked.{same_access}
+use Rattle.prog_paths.proofs.Rising.{rises-append, rises-push, rises-left, rises-across}
 use Rattle.repair_laws.specs.declared.plan.Pair.{Pair}
 use Rattle.repair_laws.specs.Keys.{ExposedOf, IsForcedEqual, IsLeastForced, IsKeyOf}
 use Rattle.si_repair.specs.Exposed.{AreExposed, ArePlacesOf, AreExposedAmong}
 use Rattle.si_repair.specs.Key.{AreMissed, IsMissed, AreFactsOf, PutEqual, AreLeft, ForceEqual, IsEarlier, ArePairsRising, params_with, all_pairs, AreForced}
-use Rattle.si_repair.proofs.Exposed.{nothing, among_first, still_first, last_first, first_moved, of_pair-exposed, AreExposed-from_places}
-use Rattle.prog_tree.proofs.Elements.{contains_only}
+use Rattle.si_repair.proofs.Exposed.{among_first, still_first, last_first, first_moved, of_pair-exposed, AreExposed-from_places}
+use Rattle.prog_tree.proofs.Elements.{contains_only, contains_itself, contains_nothing}
 
 -- ---- pairs in order
 
-rising-push : (xs : List (ℕ × ℕ)) (x : ℕ × ℕ) → ArePairsRising xs → ((y : ℕ × ℕ) → Contains xs y → IsEarlier y x) → ArePairsRising (xs ++ x ∷ [])
-rising-push [] x h before = (λ q c. absurd (nothing q c), tt)
-rising-push (z ∷ xs) x h before = (first, rising-push xs x h.1 (λ y c. before y (Contains-append_right (z ∷ []) xs y c)))
-  where
-    first : (q : ℕ × ℕ) → Contains (xs ++ x ∷ []) q → IsEarlier z q
-    first q c = go (Contains-push_cases xs x q c)
-      where
-        go : Contains xs q ⊎ (x ≡ q) → IsEarlier z q
-        go (inl k) = h.0 q k
-        go (inr k) = subst (λ (r : ℕ × ℕ). IsEarlier z r) k (before z (0, omega arith, refl))
-
 rising-front : (xs : List (ℕ × ℕ)) (x : ℕ × ℕ) → ArePairsRising (xs ++ x ∷ []) → ArePairsRising xs × ((y : ℕ × ℕ) → Contains xs y → IsEarlier y x)
-rising-front [] x h = (tt, λ y c. absurd (nothing y c))
-rising-front (z ∷ xs) x h = (((λ q c. h.0 q (Contains-append_left xs (x ∷ []) q c)), (rising-front xs x h.1).0), before (rising-front xs x h.1).1)
-  where
-    before : ((y : ℕ × ℕ) → Contains xs y → IsEarlier y x) → (y : ℕ × ℕ) → Contains (z ∷ xs) y → IsEarlier y x
-    before rest y c = go (Contains-append_cases (z ∷ []) xs y c)
-      where
-        go : Contains (z ∷ []) y ⊎ Contains xs y → IsEarlier y x
-        go (inl k) = subst (λ (r : ℕ × ℕ). IsEarlier r x) (contains_only z y k) (h.0 x (Contains-push xs x))
-        go (inr k) = rest y k
-
-rising-append : (xs ys : List (ℕ × ℕ)) → ArePairsRising xs → ArePairsRising ys → ((x y : ℕ × ℕ) → Contains xs x → Contains ys y → IsEarlier x y) → ArePairsRising (xs ++ ys)
-rising-append [] ys h k before = k
-rising-append (z ∷ xs) ys h k before = (first, rising-append xs ys h.1 k (λ x y i j. before x y (Contains-append_right (z ∷ []) xs x i) j))
-  where
-    first : (q : ℕ × ℕ) → Contains (xs ++ ys) q → IsEarlier z q
-    first q c = go (Contains-append_cases xs ys q c)
-      where
-        go : Contains xs q ⊎ Contains ys q → IsEarlier z q
-        go (inl i) = h.0 q i
-        go (inr j) = before z q (0, omega arith, refl) j
+rising-front xs x h = (rises-left IsEarlier xs (x ∷ []) h, λ y c. rises-across IsEarlier xs (x ∷ []) y x h c (contains_itself x))
 
 -- ---- all pairs
 
@@ -73,7 +44,7 @@ by_last (suc a) (suc b) h = next (by_last a b (omega (arith, h)))
     next (inr k) = inr (ap suc k)
 
 of_pairs : (i n : ℕ) (p : ℕ × ℕ) → Contains (params_with i n) p → (p.0 ≡ i) × (p.1 < n)
-of_pairs i zero p c = absurd (nothing p c)
+of_pairs i zero p c = absurd (contains_nothing p c)
 of_pairs i (suc n) p c = go (Contains-push_cases (params_with i n) (i, n) p c) (λ k. of_pairs i n p k)
   where
     go : Contains (params_with i n) p ⊎ ((i, n) ≡ p) → (Contains (params_with i n) p → (p.0 ≡ i) × (p.1 < n)) → (p.0 ≡ i) × (p.1 < suc n)
@@ -89,7 +60,7 @@ in_pairs i (suc n) j lt = go (by_last j n lt) (λ k. in_pairs i n j k)
     go (inr k) rest = subst (λ (m : ℕ). Contains (params_with i n ++ (i, n) ∷ []) (i, m)) k (Contains-push (params_with i n) (i, n))
 
 of_all : (m n : ℕ) (p : ℕ × ℕ) → Contains (all_pairs m n) p → (p.0 < m) × (p.1 < n)
-of_all zero n p c = absurd (nothing p c)
+of_all zero n p c = absurd (contains_nothing p c)
 of_all (suc m) n p c = go (Contains-append_cases (all_pairs m n) (params_with m n) p c) (λ k. of_all m n p k)
   where
     go : Contains (all_pairs m n) p ⊎ Contains (params_with m n) p → (Contains (all_pairs m n) p → (p.0 < m) × (p.1 < n)) → (p.0 < suc m) × (p.1 < n)
@@ -106,11 +77,11 @@ in_all (suc m) n i j lt k = go (by_last i m lt) (λ h. in_all m n i j h k)
 
 pairs_rise : (i n : ℕ) → ArePairsRising (params_with i n)
 pairs_rise i zero = tt
-pairs_rise i (suc n) = rising-push (params_with i n) (i, n) (pairs_rise i n) (λ y c. let o = of_pairs i n y c in inr (o.0, o.1))
+pairs_rise i (suc n) = rises-push IsEarlier (params_with i n) (i, n) (pairs_rise i n) (λ y c. let o = of_pairs i n y c in inr (o.0, o.1))
 
 all_rise : (m n : ℕ) → ArePairsRising (all_pairs m n)
 all_rise zero n = tt
-all_rise (suc m) n = rising-append (all_pairs m n) (params_with m n) (all_rise m n) (pairs_rise m n) before
+all_rise (suc m) n = rises-append IsEarlier (all_pairs m n) (params_with m n) (all_rise m n) (pairs_rise m n) before
   where
     before : (x y : ℕ × ℕ) → Contains (all_pairs m n) x → Contains (params_with m n) y → IsEarlier x y
     before x y i j =
@@ -122,7 +93,7 @@ all_rise (suc m) n = rising-append (all_pairs m n) (params_with m n) (all_rise m
 
 module _ (facts : List Fact) where
   pub AreLeft-none : (pairs : List (ℕ × ℕ)) → AreLeft facts (take 0 pairs) []
-  AreLeft-none pairs = record { only = λ p c. absurd (nothing p c); each = λ p c e. absurd (nothing p c); rise = λ h. tt }
+  AreLeft-none pairs = record { only = λ p c. absurd (contains_nothing p c); each = λ p c e. absurd (contains_nothing p c); rise = λ h. tt }
 
   pub AreLeft-all : (pairs left : List (ℕ × ℕ)) (n : ℕ) → length pairs ≤ n → AreLeft facts (take n pairs) left → AreLeft facts pairs left
   AreLeft-all pairs left n le h = subst (λ (l : List (ℕ × ℕ)). AreLeft facts l left) (take_all n pairs le) h
@@ -149,7 +120,7 @@ module _ (facts : List Fact) where
             go (inr k) = subst (λ (q : ℕ × ℕ). Contains (left ++ get_or pairs n d ∷ []) q) k (Contains-push left (get_or pairs n d))
 
         rise : ArePairsRising (take (n + 1) pairs) → ArePairsRising (left ++ get_or pairs n d ∷ [])
-        rise k = let f = front k in rising-push left (get_or pairs n d) (h.rise f.0) (λ y c. f.1 y (h.only y c).0)
+        rise k = let f = front k in rises-push IsEarlier left (get_or pairs n d) (h.rise f.0) (λ y c. f.1 y (h.only y c).0)
 
     pub AreLeft-dropped : (more : List (ℕ × ℕ)) → (PutEqual facts (get_or pairs n d) → ⊥) → more ≡ left → AreLeft facts (take (n + 1) pairs) more
     AreLeft-dropped more no_put is = subst (λ (l : List (ℕ × ℕ)). AreLeft facts (take (n + 1) pairs) l) (sym is) (record { only = λ p c. let o = h.only p c in (still_first n pairs d p lt o.0, o.1); each = each; rise = λ k. h.rise (front k).0 })
@@ -190,7 +161,7 @@ put-forces nodes q facts i j all is missed f =
 module _ (nodes : List Path) (firsts seconds : ℕ) where
   pub AreForced-none : (pairs : List (ℕ × ℕ)) → pairs ≡ all_pairs firsts seconds → AreForced nodes [] firsts seconds pairs
   AreForced-none pairs is = subst (λ (l : List (ℕ × ℕ)). AreForced nodes [] firsts seconds l) (sym is) (record {
-    only = λ i j c. let o = of_all firsts seconds (i, j) c in (o.0, o.1, λ q k. absurd (nothing q k));
+    only = λ i j c. let o = of_all firsts seconds (i, j) c in (o.0, o.1, λ q k. absurd (contains_nothing q k));
     each = λ i j a b f. in_all firsts seconds i j a b;
     rise = all_rise firsts seconds;
   })
@@ -259,7 +230,7 @@ module _ (nodes : List Path) (pair : Pair) (qs : List Question) (exposed : AreEx
       least k l a b f = go (Contains-append_cases (p ∷ []) rest (k, l) (h.each k l a b (by-forced nodes pair qs exposed.only k l f)))
         where
           same : Contains {X = ℕ × ℕ} [] (k, l) ⊎ (p ≡ (k, l)) → (p.0 < k) ⊎ ((p.0 ≡ k) × (p.1 ≤ l))
-          same (inl n) = absurd (nothing (k, l) n)
+          same (inl n) = absurd (contains_nothing (k, l) n)
           same (inr e) = let second = ap (λ (q : ℕ × ℕ). q.1) e in inr (ap (λ (q : ℕ × ℕ). q.0) e, omega (arith, second))
 
           earlier : IsEarlier p (k, l) → (p.0 < k) ⊎ ((p.0 ≡ k) × (p.1 ≤ l))
@@ -268,10 +239,10 @@ module _ (nodes : List Path) (pair : Pair) (qs : List Question) (exposed : AreEx
 
           go : Contains (p ∷ []) (k, l) ⊎ Contains rest (k, l) → (p.0 < k) ⊎ ((p.0 ≡ k) × (p.1 ≤ l))
           go (inl c) = same (Contains-push_cases [] p (k, l) c)
-          go (inr c) = earlier (h.rise.0 (k, l) c)
+          go (inr c) = earlier (All-contains (IsEarlier p) rest (k, l) h.rise.0 c)
 
   IsKeyOf-first : (firsts seconds : ℕ) (pairs : List (ℕ × ℕ)) → AreForced nodes qs firsts seconds pairs → IsKeyOf nodes pair firsts seconds (slice_get pairs 0)
-  IsKeyOf-first firsts seconds [] h = λ i j a b f. nothing (i, j) (h.each i j a b (by-forced nodes pair qs exposed.only i j f))
+  IsKeyOf-first firsts seconds [] h = λ i j a b f. contains_nothing (i, j) (h.each i j a b (by-forced nodes pair qs exposed.only i j f))
   IsKeyOf-first firsts seconds (p ∷ rest) h = least-of firsts seconds p rest h
 
 -- The pairs of parameters that the exposed questions of some accesses to others force equal; or none, where those of the
@@ -300,4 +271,4 @@ module _ (nodes : List Path) (pair : Pair) (xs ys : List Placed) (reads : ArePla
           IsKeyOf-first nodes pair h.questions (AreExposed-from_places nodes pair xs ys reads changes h.questions exposed) firsts seconds pairs h.forced
       go (inr none) =
           subst (λ (l : List (ℕ × ℕ)). IsKeyOf nodes pair firsts seconds (slice_get l 0)) (sym none)
-          (λ i j a b f. nothing (i, j) (subst (λ (l : List (ℕ × ℕ)). Contains l (i, j)) none (h.forced.each i j a b (by-forced nodes pair h.questions only i j f))))
+          (λ i j a b f. contains_nothing (i, j) (subst (λ (l : List (ℕ × ℕ)). Contains l (i, j)) none (h.forced.each i j a b (by-forced nodes pair h.questions only i j f))))

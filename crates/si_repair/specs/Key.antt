@@ -7,7 +7,7 @@ use Rattle.prog_check.specs.declared.path.Term.TheVariants.{Param}
 use Rattle.prog_check.specs.declared.path.Access.{Access}
 use Rattle.prog_check.specs.declared.path.Path.{Path}
 use Rattle.prog_paths.specs.Facts.{question_facts, AreEqualWhereTheyMeet}
-use Rattle.prog_paths.specs.StaticGraph.{Precedes, AsksOf, AsksReadWrite}
+use Rattle.prog_paths.specs.StaticGraph.{Precedes, Rises, AsksOf, AsksReadWrite}
 use Rattle.prog_paths.specs.declared.accesses.questions.Question.{Question}
 use Rattle.prog_paths.specs.Questions.{numbers_of}
 
@@ -43,8 +43,7 @@ IsEarlier p q = Precedes p.0 p.1 q.0 q.1
 
 -- each stands before all that follow
 abbrev pub ArePairsRising : List (ℕ × ℕ) → Type 0
-ArePairsRising [] = Unit {0}
-ArePairsRising (p ∷ rest) = ((q : ℕ × ℕ) → Contains rest q → IsEarlier p q) × ArePairsRising rest
+ArePairsRising = Rises IsEarlier
 
 -- of some pairs of parameters, those that the facts put equal, in the old order
 pub record AreLeft (facts : List Fact) (old new : List (ℕ × ℕ)) : Type 0 where

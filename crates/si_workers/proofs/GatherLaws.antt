@@ -5,8 +5,7 @@ use Rattle.std.specs.Option.{option_map}
 use Rattle.std.proofs.lemmas.Bool.Decides.{nat_tests}
 use Rattle.std.proofs.lemmas.List.{append-nil, length-map}
 use Rattle.std.proofs.lemmas.List.Concat.{flat_map-append}
-use Rattle.std.proofs.lemmas.Option.{slice_get-map, slice_get_past}
-use Rattle.si_engine.proofs.PlaceLaws.{get-set_other, get-set_same}
+use Rattle.std.proofs.lemmas.Option.{slice_get-map, slice_get_past, slice_get_within}
 use Rattle.si_workers.specs.KeptAndTold.{Tidings}
 use Rattle.si_workers.specs.Gathered.{outcome_in, with_one, with_all, AreToldMore}
 use Rattle.si_workers.specs.Told.{Report, outcomes_of, only, AreTold}
@@ -15,6 +14,7 @@ use Rattle.job_list.specs.declared.job.JobOutcome.{JobOutcome}
 use Rattle.si_workers.specs.declared.told.ToldOfJob.{ToldOfJob}
 use Rattle.si_workers.specs.declared.worker.Done.{Done}
 use Rattle.si_workers.specs.declared.told.ToldOfJob.TheVariants.{Nothing, Often}
+use Rattle.prog_tree.proofs.Elements.{get-set_other, get-set_same}
 
 -- ---- one report after another
 
@@ -83,7 +83,7 @@ told-one before after j t o found is k = go (j == k) refl
         let v = with_one t o in
         let at : slice_get before k ≡ Some t = sym (ap (slice_get before) same) ∙ found in
         let now : slice_get after k ≡ Some v =
-        ap (λ (ts : List ToldOfJob). slice_get ts k) is ∙ sym (ap (slice_get (slice_set before j v)) same) ∙ get-set_same before j t v found in
+        ap (λ (ts : List ToldOfJob). slice_get ts k) is ∙ sym (ap (slice_get (slice_set before j v)) same) ∙ get-set_same before j v (slice_get_within before j t found) in
         now ∙ sym (ap (option_map (with_all (o ∷ []))) at)
 
 -- ---- what is kept in the end

@@ -1,5 +1,5 @@
 -- The places of landmarks as a list.
-use Rattle.std.proofs.Common.{◌≡◌, ◌≤◌, ◌⊎◌, ◌++◌, ◌∷◌, [], inl, inr, ℕ, zero, suc, ◌+◌, List, Option, Some, None, IfNone, IfSome, true, false, ap, length, map, refl, slice_get, subst, sym, if◌then◌else◌, arith}
+use Rattle.std.proofs.Common.{◌≡◌, ◌≤◌, ◌⊎◌, ◌++◌, ◌∷◌, [], inl, inr, ℕ, zero, suc, ◌+◌, List, Option, Some, None, IfNone, IfSome, true, false, length, map, refl, slice_get, subst, sym, if◌then◌else◌, arith}
 use Rattle.std.proofs.lemmas.Bool.{cases_Bool}
 use Rattle.std.proofs.lemmas.List.{append-nil, length-append, length-map, map-append}
 use Rattle.std.proofs.lemmas.Option.{none-some, same_Some}
@@ -7,6 +7,7 @@ use Rattle.text_places.specs.declared.landmark.Landmark.{Landmark}
 use Rattle.text_places.specs.declared.landmark.Landmark.TheVariants.{Program, Statement}
 use Rattle.text_places.specs.Reading.{without_comments}
 use Rattle.text_places.specs.Landmarks.{is_landmark, landmarks_before, places_before, statements_ahead, FewBehind, HasFewer, HasNoStatement, IsNumbered, IsStatementPlace, NoProgram}
+use Rattle.prog_tree.proofs.Elements.{get_push_cases}
 
 -- each landmark has a place
 pub counted : (kind : Landmark) (text : List ℕ) (place : ℕ) → length (places_before kind text place) ≡ landmarks_before kind text place
@@ -18,19 +19,6 @@ counted kind text (suc place) = go (cases_Bool (is_landmark kind text place)) (c
         → length (places_before kind text (suc place)) ≡ landmarks_before kind text (suc place)
     go (inl is) so_far = rw is (omega (arith, length-append (places_before kind text place) (place ∷ []), so_far))
     go (inr other) so_far = rw other (omega (arith, length-append (places_before kind text place) [], so_far))
-
--- a number of a list to which one is added is of the list, or the one
-one_of : (numbers : List ℕ) (added index number : ℕ) → slice_get (numbers ++ added ∷ []) index ≡ Some number
-    → (slice_get numbers index ≡ Some number) ⊎ ((index ≡ length numbers) × (added ≡ number))
-one_of [] added zero number got = inr (refl, same_Some added number got)
-one_of [] added (suc index) number got = absurd (none-some number got)
-one_of (first ∷ numbers) added zero number got = inl got
-one_of (first ∷ numbers) added (suc index) number got = go (one_of numbers added index number got)
-  where
-    go : (slice_get numbers index ≡ Some number) ⊎ ((index ≡ length numbers) × (added ≡ number))
-        → (slice_get numbers index ≡ Some number) ⊎ ((suc index ≡ suc (length numbers)) × (added ≡ number))
-    go (inl earlier) = inl earlier
-    go (inr (at, is)) = inr (ap suc at, is)
 
 -- the place of a number in the list is that of the landmark of the number
 pub numbered : (kind : Landmark) (text : List ℕ) (end number place : ℕ) → slice_get (places_before kind text end) number ≡ Some place
@@ -52,7 +40,7 @@ numbered kind text (suc end) number place got = go (cases_Bool (is_landmark kind
         → (slice_get (places_before kind text end) number ≡ Some place → IsNumbered kind text 0 number place)
         → slice_get (places_before kind text (suc end)) number ≡ Some place
         → IsNumbered kind text 0 number place
-    go (inl is) earlier got = last is earlier (one_of (places_before kind text end) end number place (rw is at got))
+    go (inl is) earlier got = last is earlier (get_push_cases (places_before kind text end) end place number (rw is at got))
     go (inr other) earlier got = earlier (rw (other, append-nil (places_before kind text end)) at got)
 
 -- a list without a number at an index is no longer than that

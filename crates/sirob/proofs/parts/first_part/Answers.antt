@@ -1,9 +1,9 @@
 use Rattle.std.proofs.Common.{◌≡◌, ◌-◌, ℕ, List, ◌∷◌, length, take, drop, sym, subst, rules}
+use Rattle.std.proofs.lemmas.List.{take_rest}
 use Rattle.sirob.specs.Parts.{parts_of, full_lines_of}
 use Rattle.sirob.proofs.PartLemmas.{before_parts-nil, parts_of-some, one_more_line}
 use Rattle.sirob.proofs.QuietLines.{whole_part}
 use Rattle.sirob.proofs.parts.first_part.Goals as goal
-use Rattle.prog_tree.proofs.Elements.{take_all-drop}
 
 pub returns-then-not-has_percent-clause-parts : goal.returns-then-not-has_percent-clause-parts
 returns-then-not-has_percent-clause-parts c = whole_part c.args.bytes.now (c.has_percent.ensures c.if-not-has_percent.true)
@@ -16,7 +16,7 @@ loop-at-init c = record {
 
 pub loop-at-preserved : goal.loop-at-preserved
 loop-at-preserved c =
-    let rest = take_all-drop c.args.bytes.now c.loop-at.at in
+    let rest = take_rest c.args.bytes.now c.loop-at.at in
     let line = c.first_line-line.result.now in
     let front = c.first_line-line.ensures.front in
     let first = c.first_line-line.ensures.first in record {
