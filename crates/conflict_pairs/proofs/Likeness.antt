@@ -15,12 +15,12 @@ use Rattle.prog_paths.specs.Places.{AreAlike, IsAt}
 use Rattle.prog_paths.specs.StaticGraph.{IsAccessOf}
 use Rattle.prog_paths.specs.Questions.{Asks, ChangesSingleCells, IsQuestion, between, numbers_of, question_between, two}
 use Rattle.prog_paths.specs.Facts.{question_facts}
-use Rattle.prog_paths.specs.Shown.{ShowEqual, key_pairs, CoversBy}
+use Rattle.prog_paths.specs.Shown.{ShowEqual, key_pairs, CoversBy, CoversAt}
 use Rattle.prog_paths.proofs.Marked.{same_access}
 use Rattle.conflict_pairs.specs.declared.verdicts.Verdict.{Verdict}
 use Rattle.conflict_pairs.specs.declared.verdicts.Verdict.TheVariants.{Apart, Covered, Exposed}
 use Rattle.conflict_pairs.specs.Verdicts.{is_exposed, IsRight}
-use Rattle.conflict_pairs.specs.Search.{CoversAt, IsUncovered, IsJudged}
+use Rattle.conflict_pairs.specs.Search.{IsUncovered, IsJudged}
 use Rattle.conflict_pairs.specs.Alike.{CoverAlike, CoversToo, HaveSameCovers, accesses_in, accesses_at, AreCoverClasses, IsAsked, IsLikeAt, IsLike, IsJudgedAt}
 use Rattle.conflict_pairs.specs.Classes.{AreOneClass}
 use Rattle.conflict_pairs.specs.Sharing.{AreAlikeSides}

@@ -13,13 +13,13 @@ use Rattle.prog_check.specs.declared.path.Path.{Path}
 use Rattle.prog_paths.specs.Meeting.{MeetsUnder, CanMeet, MayTouch}
 use Rattle.prog_paths.specs.StaticGraph.{AsksOf, IsAccessOf, IsCovered}
 use Rattle.prog_paths.specs.Facts.{question_facts}
-use Rattle.prog_paths.specs.Shown.{Falls}
+use Rattle.prog_paths.specs.Shown.{Falls, CoversAt}
 use Rattle.prog_paths.proofs.Facts.{law_of_meeting, law_of_consistency}
 use Rattle.prog_paths.specs.Questions.{IsQuestion, ChangesSingleCells, two, between}
 use Rattle.conflict_pairs.specs.declared.verdicts.Verdict.{Verdict}
 use Rattle.conflict_pairs.specs.declared.verdicts.Verdict.TheVariants.{Apart, Covered, Exposed}
 use Rattle.conflict_pairs.specs.Verdicts.{HasFall, NumbersFall, IsShortest, mine_of, theirs_of, IsCoveredBy, IsExposedBy, IsRightOf, IsRight, IsExposedQuestion, TellsExposed}
-use Rattle.conflict_pairs.specs.Search.{CoversAt, IsCoverFound, ShowEqualAt, IsNoCover, IsLeftOpen, IsUncovered, IsJudged}
+use Rattle.conflict_pairs.specs.Search.{IsCoverFound, ShowEqualAt, IsNoCover, IsLeftOpen, IsUncovered, IsJudged}
 use Rattle.prog_paths.proofs.Shown.{IsPair, no_way-from_Falls, apart-from_Falls, same-from_CoversBy, CoversBy-from_same, single_at, may_touch-second}
 
 -- an access of one of two paths

@@ -5,13 +5,13 @@ use Rattle.order_facts.specs.declared.steps.Fact.{Fact}
 use Rattle.order_facts.specs.Chain.{IsConsistent, IsValuationOfI64, Meets}
 use Rattle.order_facts.specs.Sample.{sample_number, valuation_of, IsSampled}
 use Rattle.prog_check.specs.declared.path.Kind.{Kind}
-use Rattle.prog_paths.specs.StaticGraph.{IsUpToPair, AsksReadWrite}
+use Rattle.prog_paths.specs.StaticGraph.{AsksReadWrite}
 use Rattle.prog_check.specs.declared.path.Access.{Access}
 use Rattle.prog_paths.specs.Facts.{question_facts}
 use Rattle.conflict_pairs.specs.Verdicts.{IsFall, FallsShortest, IsShortest}
 use Rattle.conflict_pairs.specs.declared.verdicts.Verdict.{Verdict}
 use Rattle.conflict_pairs.specs.declared.verdicts.Verdict.TheVariants.{Apart, Covered, Exposed}
-use Rattle.prog_paths.specs.Shown.{Falls, Runs, ShowEqual, key_pairs, CoversBy}
+use Rattle.prog_paths.specs.Shown.{Falls, Runs, ShowEqual, key_pairs, CoversAt, CoversFirst}
 
 -- ---- apart
 
@@ -32,19 +32,6 @@ pub record FallsAtOnce (facts : List Fact) (chain : List Node) : Type 0 where
   pub two : length chain ≡ 2
 
 -- ---- covered
-
--- access `m` of one list and access `t` of another cover
-pub record CoversAt (facts : List Fact) (xs ys : List Access) (m t : ℕ) : Type 0 where
-  pub mine : Access
-  pub theirs : Access
-  pub at_mine : slice_get xs m ≡ Some mine
-  pub at_theirs : slice_get ys t ≡ Some theirs
-  pub covers : CoversBy facts mine theirs
-
--- they do, and no pair before them
-pub record CoversFirst (facts : List Fact) (xs ys : List Access) (m t : ℕ) : Type 0 where
-  pub covers : CoversAt facts xs ys m t
-  pub least : (i j : ℕ) → CoversAt facts xs ys i j → IsUpToPair m t i j
 
 -- such a pair is found for a question that asks for a read-write dependency and can meet
 pub record IsCoverFound (facts : List Fact) (mine theirs : Kind) (xs ys : List Access)

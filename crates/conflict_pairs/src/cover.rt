@@ -1,79 +1,16 @@
-//! Pairs of accesses that cover a question.
-ghost use Rattle.std.specs.Prelude.{◌≡◌, ◌≢◌, ◌↔◌, ◌<◌, ◌++◌, [], ◌∷◌, ℕ, List, All, IfOk, OnOk};
-ghost use Rattle.std.specs.Prelude.{IfSome, IfNone, IsTrue, Some, slice_get};
+//! The chains of accesses that cover a question.
+ghost use Rattle.std.specs.Prelude.{◌≡◌, ◌≢◌, ◌++◌, [], ◌∷◌, List, All, IfOk, OnOk, IsTrue};
 ghost use Rattle.order_facts.specs.Chain.{Entails, IsConsistent, IsStep};
-ghost use Rattle.prog_check.specs.declared.path.Access.{Access};
 ghost use Rattle.prog_check.specs.declared.path.Term.{Term};
-ghost use Rattle.prog_paths.specs.Facts.{mine_node, their_node};
-ghost use Rattle.prog_paths.specs.Shown.{Runs, ShowEqual, second_terms, key_pairs, AllEqual};
-ghost use Rattle.prog_paths.specs.Shown.{CoversBy};
+ghost use Rattle.prog_paths.specs.Shown.{Runs, ShowEqual, key_pairs, AllEqual};
 ghost use Rattle.conflict_pairs.specs.Verdicts.{IsShortest};
-ghost use Rattle.conflict_pairs.specs.Search.{CoversAt, CoversFirst};
 
 use crate::chain::Chain;
 use order_facts::{Closed, Node, is_same_node};
-use prog_check::{Access, Column, Term};
-use prog_paths::{may_cover, mine_node, second_terms, their_node};
+use prog_check::{Access, Term};
+use prog_paths::{mine_node, second_terms, their_node};
 use prog_tree::Sequence;
 use std::alloc::{AllocError, Global};
-
-/// Whether the facts put the two terms at most each other.
-fn is_equal(closed: &Closed, mine: Term, theirs: Term) -> bool
-    ensures { IsTrue result ↔ AllEqual closed.now ((mine, theirs) ∷ []) }
-{
-    closed.forces_equal(mine_node(mine), their_node(theirs))
-}
-
-fn is_equal_second(closed: &Closed, mine: Option<Column>, theirs: Option<Column>) -> bool
-    ensures { IsTrue result ↔ AllEqual closed.now (second_terms mine theirs) }
-{
-    match second_terms(mine, theirs) {
-        Some((mine, theirs)) => is_equal(closed, mine, theirs),
-        None => true,
-    }
-}
-
-/// Whether both change or keep, at one cell by the facts.
-fn covers(closed: &Closed, mine: &Access, theirs: &Access) -> bool
-    ensures { IsTrue result ↔ CoversBy closed.now mine.now theirs.now }
-{
-    may_cover(mine)
-        && may_cover(theirs)
-        && mine.table == theirs.table
-        && is_equal(closed, mine.first.low, theirs.first.low)
-        && is_equal_second(closed, mine.second, theirs.second)
-}
-
-/// The number of the first access that covers with one of the first path. None is looked at where
-/// that one may not cover.
-fn first_covering(closed: &Closed, mine: &Access, theirs: &[Access]) -> Option<usize>
-    ensures some { IfSome result (λ t. (of_theirs : Access)
-        × (slice_get theirs.now t ≡ Some of_theirs) × CoversBy closed.now mine.now of_theirs) }
-    ensures first { IfSome result (λ t. (j : ℕ) (of_theirs : Access) → j < t
-        → slice_get theirs.now j ≡ Some of_theirs → ¬ CoversBy closed.now mine.now of_theirs) }
-    ensures none { IfNone result ((j : ℕ) (of_theirs : Access)
-        → slice_get theirs.now j ≡ Some of_theirs → ¬ CoversBy closed.now mine.now of_theirs) }
-{
-    if !may_cover(mine) {
-        return None;
-    }
-    theirs
-        .iter()
-        .position(|of_theirs| covers(closed, mine, of_theirs))
-}
-
-/// The numbers of the least pair that covers, by the first path's access and then by the other's.
-pub fn least_cover(closed: &Closed, mine: &[Access], theirs: &[Access]) -> Option<(usize, usize)>
-    ensures some { IfSome result (λ c. CoversFirst closed.now mine.now theirs.now c.0 c.1) }
-    ensures none { IfNone result ((m t : ℕ) → ¬ CoversAt closed.now mine.now theirs.now m t) }
-{
-    for (m, of_mine) in mine.iter().enumerate() {
-        if let Some(t) = first_covering(closed, of_mine, theirs) {
-            return Some((m, t));
-        }
-    }
-    None
-}
 
 /// Whether the facts put a node at most another one in one step.
 fn is_one_step(closed: &Closed, from: Node, to: Node) -> bool

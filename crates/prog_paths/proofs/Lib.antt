@@ -25,6 +25,7 @@ pub mod Nodes
 pub mod Facts
 pub mod SingleCells
 pub mod Shown
+pub mod Covering
 pub mod Questions
 pub mod Changing
 pub mod Counted

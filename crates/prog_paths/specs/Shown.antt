@@ -1,5 +1,5 @@
 -- What chains of a question's facts show: that its accesses never meet, or that two cells are one wherever they do.
-use Rattle.std.specs.Prelude.{◌≡◌, ℤ, ◌<ℤ◌, List, [], ◌∷◌, Option, Some, None}
+use Rattle.std.specs.Prelude.{◌≡◌, ℕ, ℤ, ◌<ℤ◌, List, [], ◌∷◌, Option, Some, None, slice_get}
 use Rattle.order_facts.specs.declared.steps.Node.{Node}
 use Rattle.order_facts.specs.declared.steps.Node.TheVariants.{Number}
 use Rattle.order_facts.specs.declared.steps.Fact.{Fact}
@@ -9,6 +9,7 @@ use Rattle.prog_check.specs.declared.path.Column.{Column}
 use Rattle.prog_check.specs.declared.path.Access.{Access}
 use Rattle.prog_paths.specs.Meeting.{MayCover}
 use Rattle.prog_paths.specs.Facts.{mine_node, their_node, column_or_zero}
+use Rattle.prog_paths.specs.StaticGraph.{IsUpToPair}
 
 -- ---- apart
 
@@ -56,3 +57,16 @@ pub record CoversBy (facts : List Fact) (mine theirs : Access) : Type 0 where
   pub theirs_covers : MayCover theirs
   pub table : mine.table ≡ theirs.table
   pub equal : AllEqual facts (key_pairs mine theirs)
+
+-- access `m` of one list and access `t` of another cover
+pub record CoversAt (facts : List Fact) (xs ys : List Access) (m t : ℕ) : Type 0 where
+  pub mine : Access
+  pub theirs : Access
+  pub at_mine : slice_get xs m ≡ Some mine
+  pub at_theirs : slice_get ys t ≡ Some theirs
+  pub covers : CoversBy facts mine theirs
+
+-- they do, and no pair before them
+pub record CoversFirst (facts : List Fact) (xs ys : List Access) (m t : ℕ) : Type 0 where
+  pub covers : CoversAt facts xs ys m t
+  pub least : (i j : ℕ) → CoversAt facts xs ys i j → IsUpToPair m t i j

@@ -9,6 +9,7 @@ mod path;
 
 pub use accesses::changers::Changers;
 pub use accesses::count::{is_too_large, question_count};
+pub use accesses::covers::least_cover;
 pub use accesses::facts::{
     QuestionFacts, closed_facts, column_or_zero, mine_node, question_facts, second_terms,
     their_node,

@@ -1,7 +1,9 @@
-//! Accesses at their places: what two of them ask, the facts of that, and what it gives.
+//! Accesses at their places: what two of them ask, the facts of that, what it gives, and
+//! which of them cover it.
 
 pub mod changers;
 pub mod count;
+pub mod covers;
 pub mod facts;
 pub mod mark;
 pub mod places;

@@ -1,6 +1,6 @@
 use Rattle.std.proofs.Common.{ℕ, ◌<◌}
-use Rattle.conflict_pairs.specs.Search.{CoversAt}
-use Rattle.conflict_pairs.proofs.cover.least_cover.Given as goal
+use Rattle.prog_paths.specs.Shown.{CoversAt}
+use Rattle.prog_paths.proofs.accesses.covers.least_cover.Given as goal
 
 -- no access so far covers
 abbrev pub invariant-loop-m : goal.invariant-loop-m

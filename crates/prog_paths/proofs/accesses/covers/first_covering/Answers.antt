@@ -1,5 +1,5 @@
 use Rattle.std.proofs.lemmas.Bool.{both_ways}
-use Rattle.conflict_pairs.proofs.cover.first_covering.Goals as goal
+use Rattle.prog_paths.proofs.accesses.covers.first_covering.Goals as goal
 
 pub returns-then-not-may_cover-clause-none : goal.returns-then-not-may_cover-clause-none
 returns-then-not-may_cover-clause-none c =

@@ -1,5 +1,5 @@
-use Rattle.conflict_pairs.proofs.Covering.{CoversFirst-found, covers_none-more, covers_none-all}
-use Rattle.conflict_pairs.proofs.cover.least_cover.Goals as goal
+use Rattle.prog_paths.proofs.Covering.{CoversFirst-found, covers_none-more, covers_none-all}
+use Rattle.prog_paths.proofs.accesses.covers.least_cover.Goals as goal
 use Rattle.std.proofs.Common.{arith}
 
 pub returns-in-Some-clause-some : goal.returns-in-Some-clause-some
