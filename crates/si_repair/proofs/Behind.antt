@@ -2,7 +2,7 @@
 use Rattle.std.proofs.Common.{◌≡◌, ℕ, ◌+◌, Bool, true, false, List, [], ◌∷◌, ◌++◌, All, map, refl, sym, ap, ◌∙◌, arith, get_or, option_map}
 use Rattle.std.specs.Prelude.{if◌then◌else◌}
 use Rattle.std.proofs.lemmas.Option.{slice_get-get_or, slice_get-map}
-use Rattle.prog_tree.specs.Syntax.{StatementTree, BlockTree, BlockEnd, Then, Branch, Each, StmtTree, Plain, Fork, Loop, block_from, ProgramTree, DraftTree}
+use Rattle.prog_tree.specs.Syntax.{BlockTree, BlockEnd, Then, Branch, Each, StmtTree, Plain, Fork, Loop, block_from, ProgramTree, DraftTree}
 use Rattle.prog_tree.specs.Tree.{test_tree, stmt_tree, with_stmt, with_stmts, stmts_tree, block_tree, program_tree, draft_tree}
 use Rattle.prog_tree.specs.declared.program.Draft.{Draft}
 use Rattle.prog_tree.specs.declared.expr.Test.{Test}
@@ -14,6 +14,7 @@ use Rattle.prog_tree.proofs.TreeLemmas.{fork_tree, loop_tree}
 use Rattle.prog_check.specs.Paths.{statement_count}
 use Rattle.prog_check.specs.Sound.{IsSound}
 use Rattle.repair_laws.specs.Materialised.{in_front}
+use Rattle.repair_laws.proofs.Putting.{with_stmts-append, keeps-front}
 use Rattle.repair_laws.specs.Promoted.{keep_of, with_keeps, all_with_keeps, promoted_by}
 use Rattle.si_repair.specs.Behind.{cell_read_by, count_by, with_keeps_in, HasFewStatements}
 
@@ -43,27 +44,6 @@ pub count-first : (x : StmtTree) (rest : BlockTree) → statement_count (block_f
 count-first (Plain s) rest = refl
 count-first (Fork test a b) rest = refl
 count-first (Loop l body) rest = refl
-
-pub with_stmts-append : (ss ts : List Stmt) (rest : BlockTree) → with_stmts (ss ++ ts) rest ≡ with_stmts ss (with_stmts ts rest)
-with_stmts-append [] ts rest = refl
-with_stmts-append (s ∷ ss) ts rest = ap (with_stmt s) (with_stmts-append ss ts rest)
-
--- statements by what they mean, in front of a block
-abbrev before : List StmtTree → BlockTree → BlockTree
-before [] rest = rest
-before (x ∷ xs) rest = block_from x (before xs rest)
-
-before-stmts : (ss : List Stmt) (rest : BlockTree) → with_stmts ss rest ≡ before (map stmt_tree ss) rest
-before-stmts [] rest = refl
-before-stmts (s ∷ ss) rest = ap (with_stmt s) (before-stmts ss rest)
-
-before-plain : (keeps : List StatementTree) (rest : BlockTree) → before (map Plain keeps) rest ≡ in_front keeps rest
-before-plain [] rest = refl
-before-plain (k ∷ ks) rest = ap (Then k) (before-plain ks rest)
-
--- statements that are these keeps stand in front as they do
-pub keeps-front : (ss : List Stmt) (keeps : List StatementTree) (rest : BlockTree) → map stmt_tree ss ≡ map Plain keeps → with_stmts ss rest ≡ in_front keeps rest
-keeps-front ss keeps rest e = before-stmts ss rest ∙ ap (λ xs. before xs rest) e ∙ before-plain keeps rest
 
 -- one more statement of a block, with what stands behind it
 pub keeps-more : (marked : ℕ → Bool) (number next : ℕ) (done keeps : List Stmt) (stmt kept : Stmt) (rest : List Stmt)

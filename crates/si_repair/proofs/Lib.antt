@@ -17,7 +17,6 @@ pub mod Ranking
 pub mod Obstacles
 pub mod Naming
 pub mod Repaired
-pub mod Putting
 pub mod Limits
 pub mod Fewer
 pub mod NewTables

@@ -3,7 +3,6 @@ pub mod Certificates
 pub mod Checking
 pub mod Exposed
 pub mod Findings
-pub mod Front
 pub mod Key
 pub mod Marks
 pub mod Names

@@ -16,13 +16,12 @@ use crate::plans::Plan;
 use crate::repairs::bisecting::{Firsts, most_that_fit};
 use crate::repairs::checked::checked_set;
 use crate::repairs::fault::RepairFault;
-use crate::repairs::front::materialised_draft;
 use crate::repairs::key::key_of;
 use crate::repairs::names::free_name;
 use prog_check::{MAX_TABLES, Path, ProgramSet};
 use prog_paths::paths;
 use prog_tree::Draft;
-use repair_laws::{NewTable, Pair};
+use repair_laws::{NewTable, Pair, materialised_draft};
 use std::alloc::{AllocError, Global};
 
 /// How many parameters the program of a number has: none where there is no such program.

@@ -5,8 +5,6 @@ mod bisecting;
 mod checked;
 mod exposed;
 mod fault;
-mod front;
-mod keeps;
 mod key;
 mod marks;
 pub mod materialise;

@@ -3,10 +3,10 @@ ghost use Rattle.std.specs.Prelude.{◌≡◌, IfOk, length, map};
 ghost use Rattle.prog_tree.specs.Syntax.{Plain};
 ghost use Rattle.prog_tree.specs.Tree.{IsPlain, stmt_tree};
 ghost use Rattle.repair_laws.specs.Materialised.{is_one, columns_for, keep_in, keeps_for};
-ghost use Rattle.si_repair.specs.Front.{IsColumn, HasColumns};
+ghost use Rattle.repair_laws.specs.Front.{IsColumn, HasColumns};
 
+use crate::plan::NewTable;
 use prog_tree::{Expr, Key, Name, Stmt};
-use repair_laws::NewTable;
 use std::alloc::{AllocError, Global};
 
 /// Whether one parameter, or 0, serves for both programs.

@@ -3,7 +3,7 @@ use Rattle.std.specs.List.{flat_map}
 use Rattle.prog_tree.specs.Syntax.{Plain}
 use Rattle.prog_tree.specs.Tree.{stmt_tree}
 use Rattle.repair_laws.specs.Materialised.{keeps_for}
-use Rattle.si_repair.proofs.repairs.front.front_of.Given as goal
+use Rattle.repair_laws.proofs.front.front_of.Given as goal
 
 abbrev pub invariant-loop-new_table : goal.invariant-loop-new_table
 invariant-loop-new_table l = map stmt_tree l.front.items ≡ map Plain (flat_map (keeps_for l.program l.params) (take l.new_table-index l.made))

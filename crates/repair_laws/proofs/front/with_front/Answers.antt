@@ -2,8 +2,8 @@ use Rattle.std.proofs.Common.{List, map, ap, ◌∙◌}
 use Rattle.std.specs.List.{flat_map}
 use Rattle.prog_tree.specs.Syntax.{Name, Plain}
 use Rattle.repair_laws.specs.Materialised.{keeps_for}
-use Rattle.si_repair.proofs.Putting.{program_front}
-use Rattle.si_repair.proofs.repairs.front.with_front.Goals as goal
+use Rattle.repair_laws.proofs.Putting.{program_front}
+use Rattle.repair_laws.proofs.front.with_front.Goals as goal
 
 pub returns : goal.returns
 returns c =

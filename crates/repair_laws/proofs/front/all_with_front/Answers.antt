@@ -1,5 +1,5 @@
-use Rattle.si_repair.proofs.Putting.{columns_at, programs_more}
-use Rattle.si_repair.proofs.repairs.front.all_with_front.Goals as goal
+use Rattle.repair_laws.proofs.Putting.{columns_at, programs_more}
+use Rattle.repair_laws.proofs.front.all_with_front.Goals as goal
 
 pub with_front-requires : goal.with_front-requires
 with_front-requires c =

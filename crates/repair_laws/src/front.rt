@@ -5,11 +5,11 @@ ghost use Rattle.prog_tree.specs.Syntax.{Plain};
 ghost use Rattle.prog_tree.specs.Tree.{stmt_tree, program_tree, draft_tree};
 ghost use Rattle.repair_laws.specs.Materialised.{plain_table, keeps_for, with_front};
 ghost use Rattle.repair_laws.specs.Materialised.{all_with_front, HasKey, materialised_by};
-ghost use Rattle.si_repair.specs.Front.{HasColumns, HaveColumns};
+ghost use Rattle.repair_laws.specs.Front.{HasColumns, HaveColumns};
 
-use crate::repairs::keeps::keeps_for;
+use crate::keeps::keeps_for;
+use crate::plan::NewTable;
 use prog_tree::{Arity, Block, Draft, Name, Program, Stmt, TableDecl, copy_tables};
-use repair_laws::NewTable;
 use std::alloc::{AllocError, Global};
 
 /// The tables, and behind them a new one for each pair.

@@ -6,8 +6,8 @@ use Rattle.std.proofs.lemmas.Bool.{eqb-true}
 use Rattle.std.proofs.lemmas.List.Elements.{All-nil, All-cons}
 use Rattle.std.proofs.lemmas.List.{get_or-map, length-map, length-take-le, map-append, take_more}
 use Rattle.std.proofs.lemmas.Option.{slice_get-get_or, slice_get-map}
-use Rattle.prog_tree.specs.Syntax.{StatementTree, BlockTree, BlockEnd, Plain, ProgramTree, DraftTree}
-use Rattle.prog_tree.specs.Tree.{stmt_tree, stmts_tree, program_tree}
+use Rattle.prog_tree.specs.Syntax.{StatementTree, BlockTree, BlockEnd, Then, StmtTree, Plain, block_from, ProgramTree, DraftTree}
+use Rattle.prog_tree.specs.Tree.{stmt_tree, with_stmt, with_stmts, stmts_tree, program_tree}
 use Rattle.prog_tree.specs.declared.stmt.Stmt.{Stmt}
 use Rattle.prog_tree.specs.declared.program.Program.{Program}
 use Rattle.prog_check.specs.declared.path.Path.{Path}
@@ -16,10 +16,30 @@ use Rattle.repair_laws.specs.declared.plan.NewTable.{NewTable}
 use Rattle.repair_laws.specs.declared.plan.Pair.{Pair}
 use Rattle.repair_laws.specs.Keys.{IsKeyOf}
 use Rattle.repair_laws.specs.Materialised.{first_of, second_of, is_one, keeps_for, in_front, count_params, params_of, with_front, all_with_front, HasKey, kept_columns}
-use Rattle.si_repair.proofs.Behind.{with_stmts-append, keeps-front}
-use Rattle.si_repair.specs.Front.{IsColumn, HasColumns, HaveColumns}
+use Rattle.repair_laws.specs.Front.{IsColumn, HasColumns, HaveColumns}
 
 -- ---- statements in front of a block
+
+pub with_stmts-append : (ss ts : List Stmt) (rest : BlockTree) → with_stmts (ss ++ ts) rest ≡ with_stmts ss (with_stmts ts rest)
+with_stmts-append [] ts rest = refl
+with_stmts-append (s ∷ ss) ts rest = ap (with_stmt s) (with_stmts-append ss ts rest)
+
+-- statements by what they mean, in front of a block
+abbrev before : List StmtTree → BlockTree → BlockTree
+before [] rest = rest
+before (x ∷ xs) rest = block_from x (before xs rest)
+
+before-stmts : (ss : List Stmt) (rest : BlockTree) → with_stmts ss rest ≡ before (map stmt_tree ss) rest
+before-stmts [] rest = refl
+before-stmts (s ∷ ss) rest = ap (with_stmt s) (before-stmts ss rest)
+
+before-plain : (keeps : List StatementTree) (rest : BlockTree) → before (map Plain keeps) rest ≡ in_front keeps rest
+before-plain [] rest = refl
+before-plain (k ∷ ks) rest = ap (Then k) (before-plain ks rest)
+
+-- statements that are these keeps stand in front as they do
+pub keeps-front : (ss : List Stmt) (keeps : List StatementTree) (rest : BlockTree) → map stmt_tree ss ≡ map Plain keeps → with_stmts ss rest ≡ in_front keeps rest
+keeps-front ss keeps rest e = before-stmts ss rest ∙ ap (λ xs. before xs rest) e ∙ before-plain keeps rest
 
 pub block_front : (front stmts : List Stmt) (xs : List StatementTree) → map stmt_tree front ≡ map Plain xs → stmts_tree (front ++ stmts) ≡ in_front xs (stmts_tree stmts)
 block_front front stmts xs e = with_stmts-append front stmts BlockEnd ∙ keeps-front front xs (stmts_tree stmts) e

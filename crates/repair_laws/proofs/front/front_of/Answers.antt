@@ -1,7 +1,7 @@
 use Rattle.std.proofs.Common.{length}
-use Rattle.si_repair.specs.Front.{HasColumns}
-use Rattle.si_repair.proofs.Putting.{met_at}
-use Rattle.si_repair.proofs.repairs.front.front_of.Goals as goal
+use Rattle.repair_laws.specs.Front.{HasColumns}
+use Rattle.repair_laws.proofs.Putting.{met_at}
+use Rattle.repair_laws.proofs.front.front_of.Goals as goal
 
 pub keeps_for-requires : goal.keeps_for-requires
 keeps_for-requires c =
