@@ -14,8 +14,8 @@ use Rattle.prog_tree.proofs.TableLemmas.{cell_total}
 use Rattle.prog_tree.proofs.TableStates.{cell_is}
 use Rattle.history_book.specs.Dependencies.{run_found, start_found, start_at, evaluation_at, changes_some, write_write, write_read, read_write, depends}
 use Rattle.history_book.specs.History.{Instance, nth_instance, state_after, StartsBelow}
-use Rattle.history_book.specs.Orders.{IsUpTo}
-use Rattle.history_book.proofs.DependencyRelations.{WriteWriteBy, WriteReadBy, ReadWriteBy, DependsBy}
+use Rattle.serial_orders.specs.Orders.{IsUpTo}
+use Rattle.serial_orders.proofs.DependencyRelations.{WriteWriteBy, WriteReadBy, ReadWriteBy, DependsBy}
 use Rattle.history_book.proofs.StateLaws.{nth_instance-back, nth_instance_within}
 
 module _ (set : DraftTree) (opening : TableState) (h : List Instance) where

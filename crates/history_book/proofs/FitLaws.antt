@@ -8,14 +8,14 @@ use Rattle.prog_tree.specs.Table.{TableState, IsTableState}
 use Rattle.prog_tree.proofs.Elements.{IsMember}
 use Rattle.history_book.specs.Dependencies.{depends}
 use Rattle.history_book.specs.History.{Instance, IsLawful}
-use Rattle.history_book.specs.Orders.{is_one_of, least_order, IsCycle, IsForward, IsUpTo}
+use Rattle.serial_orders.specs.Orders.{is_one_of, least_order, IsCycle, IsForward, IsUpTo}
 use Rattle.history_book.specs.Serial.{is_each_once, Fits, RunsTheSame}
-use Rattle.history_book.proofs.CycleLaws.{no_cycle}
+use Rattle.serial_orders.proofs.CycleLaws.{no_cycle}
 use Rattle.history_book.proofs.DependencyLaws.{DependsOn, depends_tells, depends_within, start_at-below}
 use Rattle.history_book.proofs.ForwardLaws.{forward_fits}
-use Rattle.history_book.proofs.OrderLaws.{holds_not, all-where, is_one_of-member, ranged_up_to, least_order-comes}
-use Rattle.history_book.proofs.PlacedLaws.{fits_by_count}
-use Rattle.history_book.proofs.InTurn.{FitsAfter, ComesAfter}
+use Rattle.serial_orders.proofs.OrderLaws.{holds_not, all-where, is_one_of-member, ranged_up_to, least_order-comes}
+use Rattle.serial_orders.proofs.PlacedLaws.{fits_by_count}
+use Rattle.serial_orders.proofs.InTurn.{FitsAfter, ComesAfter}
 use Rattle.history_book.proofs.SerialLaws.{serial_runs_same, serial_runs}
 
 module _ (n : ℕ) (R : ℕ → ℕ → Type 0) where

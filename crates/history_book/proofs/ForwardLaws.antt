@@ -4,10 +4,10 @@ use Rattle.std.specs.List.{list_all, range_with_len}
 use Rattle.std.proofs.lemmas.Bool.{cases_lt, eqb-true, and_parts}
 use Rattle.std.proofs.lemmas.List.{length-append}
 use Rattle.prog_tree.proofs.Elements.{IsMember, member_all, member_left, member_right}
-use Rattle.history_book.specs.Orders.{is_one_of, IsForward, IsUpTo}
+use Rattle.serial_orders.specs.Orders.{is_one_of, IsForward, IsUpTo}
 use Rattle.history_book.specs.Serial.{is_each_once}
-use Rattle.history_book.proofs.OrderLaws.{all-at, member_of, up_to_ranged}
-use Rattle.history_book.proofs.InTurn.{FitsAfter}
+use Rattle.serial_orders.proofs.OrderLaws.{all-at, member_of, up_to_ranged}
+use Rattle.serial_orders.proofs.InTurn.{FitsAfter}
 
 -- what is left of a list without one of its numbers
 abbrev IsWithout : List ℕ → ℕ → List ℕ → Type 0

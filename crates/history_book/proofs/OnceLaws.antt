@@ -7,10 +7,10 @@ use Rattle.std.proofs.lemmas.List.Folds.{list_any-append, list_all-map}
 use Rattle.std.proofs.lemmas.List.{length-append}
 use Rattle.std.proofs.Math.Bool.{or-true, or-false}
 use Rattle.std.proofs.lemmas.Bool.{eq-eqb, ne_eqb}
-use Rattle.history_book.specs.Orders.{is_one_of}
+use Rattle.serial_orders.specs.Orders.{is_one_of}
 use Rattle.history_book.specs.Serial.{is_each_once}
-use Rattle.history_book.proofs.NumberLists.{one-at, one-push}
-use Rattle.history_book.proofs.OrderLaws.{member_of, all-at, up_to_ranged}
+use Rattle.serial_orders.proofs.NumberLists.{one-at, one-push}
+use Rattle.serial_orders.proofs.OrderLaws.{member_of, all-at, up_to_ranged}
 use Rattle.history_book.proofs.ForwardLaws.{long_enough, none_else}
 
 -- ---- one number more

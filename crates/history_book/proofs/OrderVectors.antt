@@ -8,7 +8,7 @@ use Rattle.prog_tree.proofs.Vectors.{program_of, plain_table, number, if_less}
 use Rattle.prog_tree.proofs.Vectors as tree
 use Rattle.history_book.specs.Dependencies.{depends}
 use Rattle.history_book.specs.History.{Instance, eval_of}
-use Rattle.history_book.specs.Orders.{least_order, IsCycle}
+use Rattle.serial_orders.specs.Orders.{least_order, IsCycle}
 use Rattle.history_book.specs.Serial.{is_each_once, Fits}
 use Rattle.history_book.proofs.Vectors.{key, registers, call, history, opening}
 

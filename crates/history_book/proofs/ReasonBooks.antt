@@ -5,13 +5,14 @@ use Rattle.prog_tree.specs.Syntax.{DraftTree}
 use Rattle.prog_tree.specs.Table.{TableState}
 use Rattle.history_book.specs.Dependencies.{depends}
 use Rattle.history_book.specs.History.{Instance}
-use Rattle.history_book.specs.Orders.{IsUpTo}
-use Rattle.history_book.specs.Reasons.{told_reason, IsReason}
-use Rattle.history_book.specs.TraceView.{TraceView}
-use Rattle.history_book.specs.Traces.{traces_of, trace_depends}
-use Rattle.history_book.specs.declared.orders.reason.OrderReason.{OrderReason}
+use Rattle.serial_orders.specs.Orders.{IsUpTo}
+use Rattle.serial_orders.specs.Reasons.{told_reason, IsReason}
+use Rattle.serial_orders.specs.TraceView.{TraceView}
+use Rattle.serial_orders.specs.Traces.{trace_depends}
+use Rattle.history_book.specs.Traced.{traces_of}
+use Rattle.serial_orders.specs.declared.reason.OrderReason.{OrderReason}
 use Rattle.history_book.proofs.DependencyLaws.{depends_within}
-use Rattle.history_book.proofs.ReasonLaws.{reason_depends, reason_numbers, told_is_reason, told_tells}
+use Rattle.serial_orders.proofs.ReasonLaws.{reason_depends, reason_numbers, told_is_reason, told_tells}
 use Rattle.history_book.proofs.TraceLaws.{depends_same}
 
 module _ (set : DraftTree) (opening : TableState) (h : List Instance) where

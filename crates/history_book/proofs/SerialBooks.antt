@@ -25,7 +25,7 @@ use Rattle.history_book.specs.declared.instances.row.HistoryRow.{HistoryRow}
 use Rattle.history_book.proofs.HistoryLaws.{length-commits_of, commits_of-push}
 use Rattle.history_book.proofs.EndingLaws.{few_commits}
 use Rattle.history_book.proofs.StateLaws.{nth_instance-back}
-use Rattle.history_book.specs.Orders.{is_one_of}
+use Rattle.serial_orders.specs.Orders.{is_one_of}
 use Rattle.history_book.proofs.OnceLaws.{whole, not_twice, next_within}
 use Rattle.history_book.proofs.RepeatLaws.{again_is, never}
 

@@ -13,11 +13,11 @@ use Rattle.prog_tree.proofs.LookLaws.{by_looks}
 use Rattle.prog_tree.proofs.TableStates.{same_state, IsTableState-changed}
 use Rattle.history_book.specs.Dependencies.{run_found, start_found, start_at, evaluation_at}
 use Rattle.history_book.specs.History.{Instance, eval_found, eval_of, nth_instance, state_after, evaluation, IsLawful}
-use Rattle.history_book.specs.Orders.{IsUpTo}
+use Rattle.serial_orders.specs.Orders.{IsUpTo}
 use Rattle.history_book.specs.Serial.{RunsTheSame, Runs}
 use Rattle.history_book.proofs.DependencyLaws.{Looks, DependsOn, found_at, start_at-below}
-use Rattle.history_book.proofs.InTurn.{IsPlaced, FitsAfter}
-use Rattle.history_book.proofs.RunsInOrder.{IsRun, after, eval-after, after-fine, after-is_state}
+use Rattle.serial_orders.proofs.InTurn.{IsPlaced, FitsAfter}
+use Rattle.serial_orders.proofs.RunsInOrder.{IsRun, after, eval-after, after-fine, after-is_state}
 use Rattle.history_book.proofs.StateLaws.{state_after-next, IsTableState-state_after}
 
 -- what an instance does depends on the cells that it looks at alone

@@ -10,7 +10,7 @@ use Rattle.prog_tree.specs.Table.{TableState, IsTableState}
 use Rattle.prog_tree.proofs.TableStates.{IsTableState-changed}
 use Rattle.version_store.specs.Commits.{state_at}
 use Rattle.history_book.specs.History.{Instance, eval_of, commits_after, commits_of, state_after, evaluation, nth_instance, StartsBelow}
-use Rattle.history_book.specs.Orders.{IsUpTo}
+use Rattle.serial_orders.specs.Orders.{IsUpTo}
 
 -- ---- instances by their numbers
 

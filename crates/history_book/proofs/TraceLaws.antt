@@ -15,19 +15,20 @@ use Rattle.prog_tree.specs.Syntax.{DraftTree}
 use Rattle.prog_tree.specs.Table.{TableState, cells_of}
 use Rattle.history_book.specs.Dependencies.{run_found, start_found, start_at, changes_some, evaluation_at, depends}
 use Rattle.history_book.specs.History.{Instance, state_after, StartsBelow}
-use Rattle.history_book.specs.Orders.{IsReduced}
-use Rattle.history_book.specs.Placing.{IsOrderFault}
-use Rattle.history_book.specs.TraceView.{TraceView}
-use Rattle.history_book.specs.Traces.{sight_of, trace_of, trace_in, traces_of, takes_in, looked_at, changed_at, trace_at, SeesEarlier, some_changed, trace_depends, no_trace}
+use Rattle.serial_orders.specs.Orders.{IsReduced}
+use Rattle.serial_orders.specs.Placing.{IsOrderFault}
+use Rattle.serial_orders.specs.TraceView.{TraceView}
+use Rattle.serial_orders.specs.Traces.{sight_of, trace_of, takes_in, looked_at, changed_at, trace_at, SeesEarlier, some_changed, trace_depends, no_trace}
+use Rattle.history_book.specs.Traced.{trace_in, traces_of}
 use Rattle.prog_tree.specs.Tree.{draft_tree}
 use Rattle.prog_tree.proofs.CellSets.{among-some}
 use Rattle.history_book.specs.TrueBook.{IsTrueBook}
 use Rattle.history_book.specs.View.{BookView, instance_of, history_of, traces_in}
 use Rattle.history_book.specs.declared.instances.row.HistoryRow.{HistoryRow}
-use Rattle.history_book.specs.declared.orders.order.OrderFault.{OrderFault}
-use Rattle.history_book.specs.declared.orders.order.OrderFault.TheVariants as fault
+use Rattle.serial_orders.specs.declared.order.OrderFault.{OrderFault}
+use Rattle.serial_orders.specs.declared.order.OrderFault.TheVariants as fault
 use Rattle.history_book.proofs.HistoryLaws.{evaluation-push}
-use Rattle.history_book.proofs.ReducedLaws.{cycle_same}
+use Rattle.serial_orders.proofs.ReducedLaws.{cycle_same}
 use Rattle.prog_check.proofs.NameLemmas.{list_any-map}
 
 -- ---- tests

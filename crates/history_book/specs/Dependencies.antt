@@ -9,7 +9,7 @@ use Rattle.prog_tree.specs.LookedAt.{has_looked}
 use Rattle.prog_tree.specs.Syntax.{DraftTree}
 use Rattle.prog_tree.specs.Table.{TableState}
 use Rattle.history_book.specs.History.{Instance, nothing, eval_of, nth_instance, state_after}
-use Rattle.history_book.specs.DependsBy.{Part, changes_again_by, sees_change_by, misses_change_by, depends_by}
+use Rattle.serial_orders.specs.DependsBy.{Part, changes_again_by, sees_change_by, misses_change_by, depends_by}
 
 -- what an instance, if there is one, does on a table state
 abbrev pub run_found : DraftTree → Option Instance → TableState → Evaluation

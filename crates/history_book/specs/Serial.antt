@@ -8,7 +8,7 @@ use Rattle.prog_tree.specs.Syntax.{DraftTree}
 use Rattle.prog_tree.specs.Table.{TableState}
 use Rattle.history_book.specs.Dependencies.{run_found, evaluation_at}
 use Rattle.history_book.specs.History.{Instance, nth_instance, state_after}
-use Rattle.history_book.specs.Orders.{is_one_of}
+use Rattle.serial_orders.specs.Orders.{is_one_of}
 
 -- each number from 1 to n stands in the list, once
 abbrev pub is_each_once : ℕ → List ℕ → Bool

@@ -18,8 +18,6 @@ use Rattle.history_book.specs.declared.fault.ScanFault.{ScanFault}
 use Rattle.history_book.specs.declared.fault.ScanFault.TheVariants as scan
 use Rattle.history_book.specs.declared.orders.fits.AnyFitFault.{AnyFitFault}
 use Rattle.history_book.specs.declared.orders.fits.AnyFitFault.TheVariants as any
-use Rattle.history_book.specs.declared.orders.order.OrderFault.{OrderFault}
-use Rattle.history_book.specs.declared.orders.order.OrderFault.TheVariants as order
 
 -- why an instance could not be begun
 abbrev pub begin_fault_text : BeginFault → List ℕ
@@ -73,11 +71,6 @@ abbrev pub audit_fault_text : AuditFault → List ℕ
 audit_fault_text audit.Full = codes "H7"
 audit_fault_text (audit.Row number fault) = row_fault_text fault ++ (codes " " ++ decimal number)
 audit_fault_text audit.Memory = codes "memory"
-
--- why there is no order
-abbrev pub order_fault_text : OrderFault → List ℕ
-order_fault_text (order.Cycle list) = codes "cycle"
-order_fault_text order.Memory = codes "memory"
 
 -- why no equivalent serial order was looked for
 abbrev pub any_fit_fault_text : AnyFitFault → List ℕ

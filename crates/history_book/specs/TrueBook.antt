@@ -14,7 +14,7 @@ use Rattle.version_store.specs.StandsFor.{StoreView, StandsFor}
 use Rattle.version_store.specs.Told.{clash_pair}
 use Rattle.version_store.specs.declared.clash.Clash.{Clash}
 use Rattle.history_book.specs.History.{Instance, commits_of, evaluation, IsCalled, IsLawful}
-use Rattle.history_book.specs.TraceView.{TraceView}
+use Rattle.serial_orders.specs.TraceView.{TraceView}
 use Rattle.history_book.specs.View.{BookView, instance_of, history_of, commits_in, traces_in, most_endings}
 use Rattle.history_book.specs.declared.instances.row.Ending.{Ending}
 use Rattle.history_book.specs.declared.instances.row.Ending.TheVariants as ending

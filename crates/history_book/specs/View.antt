@@ -16,8 +16,8 @@ use Rattle.history_book.specs.Dependencies.{depends}
 use Rattle.history_book.specs.History.{Instance, nth_item, commits_of, state_after, evaluation}
 use Rattle.history_book.specs.Serial.{Fits}
 use Rattle.history_book.specs.Ticket.{TicketView}
-use Rattle.history_book.specs.TraceView.{TraceView}
-use Rattle.history_book.specs.Traces.{traces_of}
+use Rattle.serial_orders.specs.TraceView.{TraceView}
+use Rattle.history_book.specs.Traced.{traces_of}
 use Rattle.history_book.specs.declared.fault.BeginFault.{BeginFault}
 use Rattle.history_book.specs.declared.fault.BeginFault.TheVariants.{NoSuchProgram, WrongArguments, TooOld, TooNew, Full, Memory}
 use Rattle.history_book.specs.declared.instances.row.Ending.{Ending}

@@ -10,15 +10,15 @@ ghost use Rattle.history_book.specs.Audit.{AreRightBehind, IsWrongAt};
 ghost use Rattle.history_book.specs.Dependencies.{depends};
 ghost use Rattle.history_book.specs.History.{Instance, commits_of, evaluation, state_after};
 ghost use Rattle.history_book.specs.History.{nth_instance, IsLawful, StartsBelow, NamesCommit};
-ghost use Rattle.history_book.specs.Orders.{IsCycle, IsForward, IsReduced, IsUpTo, least_order};
-ghost use Rattle.history_book.specs.Reasons.{IsReason};
+ghost use Rattle.serial_orders.specs.Orders.{IsCycle, IsForward, IsReduced, IsUpTo, least_order};
+ghost use Rattle.serial_orders.specs.Reasons.{IsReason};
 ghost use Rattle.history_book.specs.Serial.{is_each_once, Fits, RunsTheSame};
-ghost use Rattle.history_book.specs.Traces.{traces_of};
+ghost use Rattle.history_book.specs.Traced.{traces_of};
 ghost use Rattle.history_book.specs.TrueBook.{IsTrueRow};
 ghost use Rattle.history_book.specs.View.{history_of};
 ghost use Rattle.history_book.specs.declared.audit.RowFault.{RowFault};
 ghost use Rattle.history_book.specs.declared.instances.row.HistoryRow.{HistoryRow};
-ghost use Rattle.history_book.specs.declared.orders.reason.OrderReason.{OrderReason};
+ghost use Rattle.serial_orders.specs.declared.reason.OrderReason.{OrderReason};
 
 /// Where each instance sees only earlier commits, what was committed is what the instances write on
 /// the states that they see, and each commit leads to the next state.

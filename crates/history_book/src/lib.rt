@@ -24,6 +24,5 @@ pub use laws::{
 };
 pub use limits::MAX_ENDINGS;
 pub use orders::fits::AnyFitFault;
-pub use orders::order::OrderFault;
-pub use orders::reason::OrderReason;
+pub use serial_orders::{OrderFault, OrderReason};
 pub use version_store::Clash;

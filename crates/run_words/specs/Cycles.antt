@@ -3,11 +3,11 @@ use Rattle.std.specs.Prelude.{ℕ, List, [], ◌∷◌, ◌++◌, Option, Some, 
 use Rattle.std.specs.Fmt.{decimal}
 use Rattle.prog_tree.specs.Syntax.{DraftTree}
 use Rattle.prog_tree.specs.Tree.{draft_tree}
-use Rattle.history_book.specs.Reasons.{told_reason}
+use Rattle.serial_orders.specs.Reasons.{told_reason}
 use Rattle.history_book.specs.View.{BookView, nth_row, traces_in}
 use Rattle.history_book.specs.declared.instances.row.HistoryRow.{HistoryRow}
-use Rattle.history_book.specs.declared.orders.reason.OrderReason.{OrderReason}
-use Rattle.history_book.specs.declared.orders.reason.OrderReason.TheVariants.{Both, Saw, Missed, MissedIn}
+use Rattle.serial_orders.specs.declared.reason.OrderReason.{OrderReason}
+use Rattle.serial_orders.specs.declared.reason.OrderReason.TheVariants.{Both, Saw, Missed, MissedIn}
 use Rattle.text_places.specs.Listing.{bracketed}
 use Rattle.fault_words.specs.Naming.{cell_text, program_name, region_text}
 

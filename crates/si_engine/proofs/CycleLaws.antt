@@ -6,7 +6,7 @@ use Rattle.prog_check.specs.Paths.{paths_of}
 use Rattle.prog_paths.specs.StaticGraph.{StaticEdge, Leads, here, onward, IsVulnerable}
 use Rattle.history_book.specs.Dependencies.{depends}
 use Rattle.history_book.specs.History.{Instance}
-use Rattle.history_book.specs.Orders.{LeadsTo}
+use Rattle.serial_orders.specs.Orders.{LeadsTo}
 use Rattle.history_book.proofs.DependencyLaws.{depends_within}
 use Rattle.si_engine.specs.Robustness.{HasCommitted, IsHistory, FollowsNode, Misses, LawOfCycles, LawOfSafeSets}
 use Rattle.si_engine.proofs.CycleSteps.{step}

@@ -11,7 +11,7 @@ use Rattle.prog_paths.proofs.Turned.{turned, in_order-or_turned}
 use Rattle.history_book.specs.Dependencies.{start_at}
 use Rattle.history_book.specs.History.{Instance}
 use Rattle.history_book.proofs.DependencyLaws.{Looks, Changes, DependsOn}
-use Rattle.history_book.proofs.DependencyRelations.{WriteWriteBy, WriteReadBy, ReadWriteBy}
+use Rattle.serial_orders.proofs.DependencyRelations.{WriteWriteBy, WriteReadBy, ReadWriteBy}
 use Rattle.si_engine.specs.Robustness.{Grows, HasCommitted, IsHistory, FollowsNode, EdgeUnder, LawOfStaticEdges}
 use Rattle.si_engine.proofs.GrowLaws.{Has, ChangesAt}
 use Rattle.si_engine.proofs.InsertLaws.{law_of_inserts, law_of_single_inserts}

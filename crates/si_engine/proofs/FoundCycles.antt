@@ -1,9 +1,9 @@
 -- The cycle that a search for a serial order ends in.
 use Rattle.std.proofs.Common.{◌≡◌, ℕ, Bool, Result, Err, IfErr, subst, Vec, Global}
-use Rattle.history_book.specs.Orders.{IsCycle}
-use Rattle.history_book.specs.Placing.{IsOrderFault}
-use Rattle.history_book.specs.declared.orders.order.OrderFault.{OrderFault}
-use Rattle.history_book.specs.declared.orders.order.OrderFault.TheVariants.{Cycle}
+use Rattle.serial_orders.specs.Orders.{IsCycle}
+use Rattle.serial_orders.specs.Placing.{IsOrderFault}
+use Rattle.serial_orders.specs.declared.order.OrderFault.{OrderFault}
+use Rattle.serial_orders.specs.declared.order.OrderFault.TheVariants.{Cycle}
 
 pub found_cycle : {X : Type 0} (before : ℕ → ℕ → Bool) (r : Result X OrderFault) (f : OrderFault) (list : Vec ℕ Global) →
     r ≡ Err f → f ≡ Cycle list → IfErr r (IsOrderFault before) → IsCycle before list.items

@@ -11,9 +11,9 @@ use Rattle.prog_tree.specs.Syntax.{DraftTree}
 use Rattle.prog_tree.specs.Table.{TableState}
 use Rattle.history_book.specs.Dependencies.{run_found, start_found, start_at, evaluation_at, write_write, write_read, read_write, depends}
 use Rattle.history_book.specs.History.{Instance, nth_instance, state_after, evaluation, IsLawful}
-use Rattle.history_book.specs.Orders.{LeadsTo}
+use Rattle.serial_orders.specs.Orders.{LeadsTo}
 use Rattle.history_book.proofs.DependencyLaws.{Looks, Changes, DependsOn, depends_tells, depends_within, found_at, start_at-below, to_read_write}
-use Rattle.history_book.proofs.DependencyRelations.{WriteWriteBy, ReadWriteBy}
+use Rattle.serial_orders.proofs.DependencyRelations.{WriteWriteBy, ReadWriteBy}
 use Rattle.si_engine.specs.Robustness.{HasCommitted, AreConcurrent, Misses, EndsInMisses, LawOfLastSteps}
 
 module _ (set : DraftTree) (opening : TableState) (h : List Instance) where

@@ -21,7 +21,7 @@ use Rattle.prog_check.proofs.SoundLemmas.{soundness}
 use Rattle.prog_paths.specs.StaticGraph.{IsDangerous}
 use Rattle.history_book.specs.Dependencies.{depends}
 use Rattle.history_book.specs.History.{Instance, eval_of, nth_instance, evaluation, IsCalled, IsLawful}
-use Rattle.history_book.specs.Orders.{IsCycle}
+use Rattle.serial_orders.specs.Orders.{IsCycle}
 use Rattle.si_engine.specs.Robustness.{IsHistory}
 use Rattle.si_engine.proofs.CycleLaws.{law_of_cycles}
 

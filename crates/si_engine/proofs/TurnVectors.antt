@@ -16,7 +16,7 @@ use Rattle.prog_check.proofs.SoundLemmas.{soundness}
 use Rattle.prog_paths.specs.StaticGraph.{IsVulnerable, IsDangerous}
 use Rattle.history_book.specs.Dependencies.{depends, read_write}
 use Rattle.history_book.specs.History.{eval_of}
-use Rattle.history_book.specs.Orders.{IsCycle}
+use Rattle.serial_orders.specs.Orders.{IsCycle}
 use Rattle.si_engine.specs.Robustness.{HasCommitted, AreConcurrent, IsHistory, FollowsNode}
 use Rattle.si_engine.proofs.CycleLaws.{law_of_cycles}
 use Rattle.si_engine.proofs.SkewVectors.{instance_of, skew, first_cell, second_cell, called_plain, lawful_skew, both_ways, IsReady, ChangesTo}

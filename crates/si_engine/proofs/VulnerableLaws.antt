@@ -16,7 +16,7 @@ use Rattle.prog_paths.proofs.Own.{law_of_own_unknowns, law_of_covers}
 use Rattle.history_book.specs.Dependencies.{start_at}
 use Rattle.history_book.specs.History.{Instance}
 use Rattle.history_book.proofs.DependencyLaws.{Looks, Changes, DependsOn}
-use Rattle.history_book.proofs.DependencyRelations.{ReadWriteBy}
+use Rattle.serial_orders.proofs.DependencyRelations.{ReadWriteBy}
 use Rattle.si_engine.specs.Robustness.{HasCommitted, AreConcurrent, IsHistory, FollowsNode, LawOfVulnerableEdges}
 use Rattle.si_engine.proofs.EdgeLaws.{asked_read_write}
 use Rattle.si_engine.proofs.AccessLaws.{TouchesAt, Holds, none_shared, meets, asked_with}

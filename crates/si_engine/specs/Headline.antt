@@ -8,7 +8,7 @@ use Rattle.prog_tree.specs.Syntax.{DraftTree}
 use Rattle.prog_tree.specs.Table.{TableState}
 use Rattle.history_book.specs.Dependencies.{depends}
 use Rattle.history_book.specs.History.{nth_item, eval_found, state_after}
-use Rattle.history_book.specs.Orders.{least_order}
+use Rattle.serial_orders.specs.Orders.{least_order}
 use Rattle.history_book.specs.Serial.{is_each_once}
 use Rattle.si_engine.specs.declared.event.Event.{Event}
 use Rattle.si_engine.specs.declared.event.Event.TheVariants as event

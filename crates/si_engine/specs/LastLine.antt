@@ -6,7 +6,7 @@ use Rattle.prog_tree.specs.Syntax.{DraftTree}
 use Rattle.prog_tree.specs.Table.{TableState}
 use Rattle.history_book.specs.Dependencies.{depends}
 use Rattle.history_book.specs.History.{Instance}
-use Rattle.history_book.specs.Orders.{least_order, IsCycle}
+use Rattle.serial_orders.specs.Orders.{least_order, IsCycle}
 use Rattle.history_book.specs.Serial.{Fits}
 use Rattle.si_engine.specs.declared.output.finding.Serializability.{Serializability}
 use Rattle.si_engine.specs.declared.output.finding.Serializability.TheVariants.{Order, Cycle}

@@ -13,7 +13,7 @@ use Rattle.prog_paths.specs.Follows.{Changes, HasRow, Follows}
 use Rattle.prog_paths.specs.Meeting.{Assignment, IsOfI64, MeetAsOwn}
 use Rattle.prog_paths.specs.StaticGraph.{HasQuestion, HasReadWrite, HasWriteRead, AsksWriteWrite, IsVulnerable, IsDangerous}
 use Rattle.history_book.specs.History.{Instance, IsLawful, nth_instance, state_after}
-use Rattle.history_book.specs.Orders.{IsUpTo, IsCycle}
+use Rattle.serial_orders.specs.Orders.{IsUpTo, IsCycle}
 use Rattle.history_book.specs.Dependencies.{start_at, evaluation_at, read_write, depends}
 
 -- a question that gives the edge x to y is met by runs under this pair of assignments, the first of x, the second of y

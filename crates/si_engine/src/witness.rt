@@ -1,5 +1,5 @@
 //! Who is told what a run comes to.
-ghost use Rattle.history_book.specs.Orders.{IsCycle};
+ghost use Rattle.serial_orders.specs.Orders.{IsCycle};
 ghost use Rattle.history_book.specs.View.{depends_in};
 
 use crate::event::{Event, Reply};

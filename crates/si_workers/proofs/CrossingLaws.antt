@@ -26,7 +26,7 @@ use Rattle.history_book.specs.contracts.book.Book.TheInside as book-inside
 use Rattle.history_book.proofs.instances.active.Active.TheSendSync as active-crossing
 use Rattle.history_book.proofs.instances.row.Ending.TheSendSync as ending-crossing
 use Rattle.history_book.proofs.instances.row.HistoryRow.TheSendSync as row-crossing
-use Rattle.history_book.proofs.orders.trace.Trace.TheSendSync as trace-crossing
+use Rattle.serial_orders.proofs.trace.Trace.TheSendSync as trace-crossing
 use Rattle.state_log.specs.declared.front.Naming as naming
 use Rattle.state_log.specs.contracts.front.Front as front
 use Rattle.state_log.specs.contracts.front.Head as head

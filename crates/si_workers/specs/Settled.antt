@@ -1,7 +1,7 @@
 -- What comes of work, by what its workers did.
 use Rattle.std.specs.Prelude.{◌≡◌, ℕ, ◌<◌, ◌≤◌, ◌⊎◌, Bool, false, List, length, map, flat_map, Option, Some, None, Result, Ok, Err}
 use Rattle.std.specs.List.{list_any}
-use Rattle.history_book.specs.Orders.{least_order}
+use Rattle.serial_orders.specs.Orders.{least_order}
 use Rattle.history_book.specs.View.{BookView, FitsBook, depends_in}
 use Rattle.si_workers.specs.Assigned.{Assigned}
 use Rattle.si_workers.specs.KeptAndTold.{Tidings}

@@ -15,9 +15,9 @@ ghost use Rattle.history_book.specs.View.{most_begins};
 
 use crate::book::Book;
 use crate::instances::row::{Ending, HistoryRow};
-use crate::orders::trace::Trace;
 use prog_run::Run;
 use prog_tree::Changes;
+use serial_orders::Trace;
 use std::alloc::AllocError;
 use version_store::Store;
 

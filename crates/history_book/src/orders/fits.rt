@@ -7,7 +7,7 @@ ghost use Rattle.prog_tree.specs.Tree.{draft_tree};
 ghost use Rattle.history_book.specs.AnyFit.{IsAnyFitFault, most_ordered};
 ghost use Rattle.history_book.specs.Audit.{taken_up};
 ghost use Rattle.history_book.specs.History.{IsCalled, nth_instance};
-ghost use Rattle.history_book.specs.Orders.{is_one_of};
+ghost use Rattle.serial_orders.specs.Orders.{is_one_of};
 ghost use Rattle.history_book.specs.Repeats.{IsSameAgain, begun_again};
 ghost use Rattle.history_book.specs.Serial.{is_each_once};
 ghost use Rattle.history_book.specs.TrueBook.{IsTrueRow};

@@ -1,14 +1,11 @@
 //! The least order of the commits, or a cycle of them.
 
 ghost use Rattle.std.specs.Prelude.{◌≡◌, length, Some, IfOk, IfErr};
-ghost use Rattle.history_book.specs.Orders.{least_order};
-ghost use Rattle.history_book.specs.Placing.{IsOrderFault};
-ghost use Rattle.history_book.specs.Traces.{SeesEarlier, trace_depends};
+ghost use Rattle.serial_orders.specs.Orders.{least_order};
+ghost use Rattle.serial_orders.specs.Placing.{IsOrderFault};
+ghost use Rattle.serial_orders.specs.Traces.{SeesEarlier, trace_depends};
 
-use crate::orders::nearby::nearby_order;
-use crate::orders::order::OrderFault;
-use crate::orders::reduced::reduced_precedence;
-use crate::orders::trace::Trace;
+use serial_orders::{OrderFault, Trace, nearby_order, reduced_precedence};
 use std::alloc::Global;
 
 /// The least order of the commits: by tests of those that are near each other where these find it,

@@ -4,7 +4,7 @@ ghost use Rattle.std.specs.List.{zip};
 ghost use Rattle.prog_tree.specs.Tree.{draft_tree};
 ghost use Rattle.prog_check.specs.Paths.{paths_of};
 ghost use Rattle.prog_paths.specs.StaticGraph.{IsDangerous};
-ghost use Rattle.history_book.specs.Orders.{least_order};
+ghost use Rattle.serial_orders.specs.Orders.{least_order};
 ghost use Rattle.history_book.specs.View.{depends_in, history_of, FitsBook};
 ghost use Rattle.si_engine.specs.Headline.{Headline, IsLeastOrdered, commit_in, commits_said};
 ghost use Rattle.si_engine.specs.Machine.{machine_after, replies_of};

@@ -2,7 +2,7 @@
 //! and the lines of a script that do nothing.
 
 ghost use Rattle.std.specs.Prelude.{◌≡◌, IfSome, string_bytes};
-ghost use Rattle.history_book.specs.Orders.{IsCycle};
+ghost use Rattle.serial_orders.specs.Orders.{IsCycle};
 ghost use Rattle.history_book.specs.View.{depends_in};
 ghost use Rattle.run_words.specs.Cycles.{cycle_text};
 

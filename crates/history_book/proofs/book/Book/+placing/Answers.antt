@@ -1,5 +1,5 @@
 use Rattle.std.proofs.Common.{◌≡◌, ◌≤◌, ℕ, List, length, sym, subst, ap, ◌∙◌, arith}
-use Rattle.history_book.specs.Orders.{is_one_of}
+use Rattle.serial_orders.specs.Orders.{is_one_of}
 use Rattle.history_book.specs.View.{BookView}
 use Rattle.history_book.proofs.SerialBooks.{NoneUpTo, none_begins, placed_already, none_behind}
 use Rattle.history_book.proofs.book.Book.+placing.Goals as goal

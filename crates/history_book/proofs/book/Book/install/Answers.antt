@@ -7,7 +7,7 @@ use Rattle.std.proofs.Common.{◌∙◌}
 use Rattle.version_store.specs.StandsFor.{StandsFor}
 use Rattle.history_book.specs.Runs.{IsCommit}
 use Rattle.prog_tree.specs.ChangeSet.{ChangeSet}
-use Rattle.history_book.specs.Traces.{trace_of}
+use Rattle.serial_orders.specs.Traces.{trace_of}
 use Rattle.history_book.specs.View.{BookView, done_in, instance_of}
 use Rattle.history_book.proofs.TraceLaws.{traced-committed}
 use Rattle.history_book.proofs.BookLaws.{true-committed, commits-committed, stored, next_number}

@@ -2,14 +2,14 @@ use Rattle.std.proofs.Common.{◌≡◌, ◌∙◌, List, false, true≢false, l
 use Rattle.std.specs.Prelude.{IfNone, IfSome, Option}
 use Rattle.std.proofs.lemmas.List.{length-map}
 use Rattle.prog_tree.specs.Tree.{draft_tree}
-use Rattle.history_book.specs.Orders.{IsUpTo}
-use Rattle.history_book.specs.Reasons.{told_reason, IsReason}
-use Rattle.history_book.specs.TraceView.{TraceView}
-use Rattle.history_book.specs.Traces.{trace_in}
+use Rattle.serial_orders.specs.Orders.{IsUpTo}
+use Rattle.serial_orders.specs.Reasons.{told_reason, IsReason}
+use Rattle.serial_orders.specs.TraceView.{TraceView}
+use Rattle.history_book.specs.Traced.{trace_in}
 use Rattle.history_book.specs.View.{history_of, traces_in, depends_in}
-use Rattle.history_book.specs.declared.orders.reason.OrderReason.{OrderReason}
+use Rattle.serial_orders.specs.declared.reason.OrderReason.{OrderReason}
 use Rattle.history_book.proofs.ReasonBooks.{none_told, none_outside}
-use Rattle.history_book.proofs.ReasonLaws.{told_is_reason}
+use Rattle.serial_orders.proofs.ReasonLaws.{told_is_reason}
 use Rattle.history_book.proofs.book.Book.reason.Goals as goal
 
 -- one of the numbers is of no commit

@@ -4,10 +4,11 @@ use Rattle.std.proofs.lemmas.List.{length-map}
 use Rattle.std.proofs.lemmas.Result.{IfOk-weaker}
 use Rattle.prog_tree.specs.Table.{IsTableState}
 use Rattle.prog_tree.specs.Tree.{draft_tree}
-use Rattle.history_book.specs.Orders.{least_order, IsCycle}
-use Rattle.history_book.specs.Placing.{IsOrderFault}
-use Rattle.history_book.specs.TraceView.{TraceView}
-use Rattle.history_book.specs.Traces.{SeesEarlier, trace_depends, trace_in}
+use Rattle.serial_orders.specs.Orders.{least_order, IsCycle}
+use Rattle.serial_orders.specs.Placing.{IsOrderFault}
+use Rattle.serial_orders.specs.TraceView.{TraceView}
+use Rattle.serial_orders.specs.Traces.{SeesEarlier, trace_depends}
+use Rattle.history_book.specs.Traced.{trace_in}
 use Rattle.history_book.specs.TrueBook.{IsTrueBook}
 use Rattle.history_book.specs.View.{history_of, instance_of, depends_in, traces_in, FitsBook}
 use Rattle.history_book.proofs.FitLaws.{least_order-fits, dependencies_without_cycle}

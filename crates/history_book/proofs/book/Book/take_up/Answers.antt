@@ -2,7 +2,7 @@ use Rattle.std.proofs.Common.{◌≡◌, ◌<◌, ◌≤◌, [], length, sym, su
 use Rattle.prog_tree.specs.ChangeSet.{ChangeSet}
 use Rattle.version_store.specs.StandsFor.{StandsFor}
 use Rattle.history_book.specs.Runs.{IsCommit}
-use Rattle.history_book.specs.Traces.{trace_of}
+use Rattle.serial_orders.specs.Traces.{trace_of}
 use Rattle.history_book.specs.View.{BookView, done_in, instance_of, most_endings}
 use Rattle.history_book.proofs.TraceLaws.{traced-committed}
 use Rattle.history_book.proofs.BookLaws.{true-taken, commits-committed, stored, next_number}

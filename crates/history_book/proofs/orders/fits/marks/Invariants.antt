@@ -1,6 +1,6 @@
 use Rattle.std.proofs.Common.{◌≡◌, map, take}
 use Rattle.std.specs.List.{range_with_len}
-use Rattle.history_book.specs.Orders.{is_one_of}
+use Rattle.serial_orders.specs.Orders.{is_one_of}
 use Rattle.history_book.proofs.orders.fits.marks.Given as goal
 
 abbrev pub invariant-loop-number : goal.invariant-loop-number

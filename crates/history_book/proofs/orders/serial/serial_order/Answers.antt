@@ -1,11 +1,11 @@
 use Rattle.std.proofs.Common.{◌≡◌, ◌∙◌, ℕ, List, length, ap, subst}
 use Rattle.std.specs.Prelude.{Option, Some, IfOk}
 use Rattle.std.proofs.lemmas.Result.{IfErr-weaker}
-use Rattle.history_book.specs.Orders.{least_order}
-use Rattle.history_book.specs.Placing.{IsOrderFault}
-use Rattle.history_book.specs.Precedence.{precedes}
-use Rattle.history_book.specs.Traces.{trace_depends}
-use Rattle.history_book.proofs.ReducedLaws.{least_order_same}
+use Rattle.serial_orders.specs.Orders.{least_order}
+use Rattle.serial_orders.specs.Placing.{IsOrderFault}
+use Rattle.serial_orders.specs.Precedence.{precedes}
+use Rattle.serial_orders.specs.Traces.{trace_depends}
+use Rattle.serial_orders.proofs.ReducedLaws.{least_order_same}
 use Rattle.history_book.proofs.TraceLaws.{same_fault}
 use Rattle.history_book.proofs.orders.serial.serial_order.Goals as goal
 

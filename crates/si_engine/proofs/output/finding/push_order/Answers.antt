@@ -1,5 +1,5 @@
 use Rattle.std.proofs.Common.{subst, sym}
-use Rattle.history_book.specs.Orders.{IsCycle}
+use Rattle.serial_orders.specs.Orders.{IsCycle}
 use Rattle.history_book.specs.View.{depends_in}
 use Rattle.si_engine.proofs.FoundCycles.{found_cycle}
 use Rattle.si_engine.proofs.output.finding.push_order.Goals as goal

@@ -1,5 +1,0 @@
-use Rattle.history_book.proofs.LateLaws.{AreLateUpTo}
-use Rattle.history_book.proofs.orders.late.mark_late.Given as goal
-
-abbrev pub invariant-loop-index : goal.invariant-loop-index
-invariant-loop-index l = AreLateUpTo l.traces l.slots l.late l.index

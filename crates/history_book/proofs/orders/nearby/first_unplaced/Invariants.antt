@@ -1,6 +1,0 @@
-use Rattle.std.proofs.Common.{◌≡◌, ℕ, ◌<◌, ◌≤◌, true}
-use Rattle.history_book.specs.Nearby.{is_marked}
-use Rattle.history_book.proofs.orders.nearby.first_unplaced.Given as goal
-
-abbrev pub invariant-loop-number : goal.invariant-loop-number
-invariant-loop-number l = (n : ℕ) → l.from ≤ n → n < l.number → is_marked l.placed n ≡ true

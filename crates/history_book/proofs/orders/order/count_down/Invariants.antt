@@ -1,7 +1,0 @@
-use Rattle.std.proofs.Common.{◌≡◌, ℕ, ◌+◌, ◌<◌, length, drop, slice_index}
-use Rattle.history_book.specs.Placing.{times}
-use Rattle.history_book.proofs.orders.order.count_down.Given as goal
-
-abbrev pub invariant-loop-number : goal.invariant-loop-number
-invariant-loop-number l =
-    (n : ℕ) → n < length l.fn.counts → slice_index l.counts n + times n l.numbers ≡ slice_index l.fn.counts n + times n (drop l.number-index l.numbers)

@@ -1,7 +1,0 @@
-use Rattle.std.proofs.Common.{◌≡◌, ◌==◌, ◌&&◌, ◌||◌, ℕ, nat_lt, take, slice_index}
-use Rattle.history_book.specs.Orders.{is_one_of}
-use Rattle.history_book.proofs.orders.order.free_more.Given as goal
-
-abbrev pub invariant-loop-number : goal.invariant-loop-number
-invariant-loop-number l =
-    (n : ℕ) → is_one_of l.passed.keys n ≡ (is_one_of l.fn.passed.keys n || (is_one_of (take l.number-index l.numbers) n && (slice_index l.waits n == 0 && nat_lt n l.next)))

@@ -1,7 +1,0 @@
-use Rattle.std.proofs.Common.{drop, ◌+◌}
-use Rattle.history_book.specs.Reduced.{readers_pairs}
-use Rattle.history_book.proofs.PairLaws.{Walk}
-use Rattle.history_book.proofs.orders.reduced.add_readers.Given as goal
-
-abbrev pub invariant-loop-index : goal.invariant-loop-index
-invariant-loop-index l = Walk (readers_pairs l.writers (l.index + 1) (drop l.index l.traces)) (readers_pairs l.writers 1 l.traces) l.fn.precedence l.precedence

@@ -1,7 +1,0 @@
-use Rattle.std.proofs.Common.{◌∙◌, ap}
-use Rattle.prog_tree.specs.Table.{is_cell_among}
-use Rattle.history_book.specs.TraceView.{TraceView}
-use Rattle.history_book.proofs.orders.trace.Trace.changed_at.Goals as goal
-
-pub returns : goal.returns
-returns c = c.contains.ensures ∙ ap (λ (t : TraceView). is_cell_among t.changed c.args.cell.now) c.self.view_is

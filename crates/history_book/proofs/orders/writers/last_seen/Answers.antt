@@ -1,7 +1,0 @@
-use Rattle.std.proofs.Common.{◌∙◌}
-use Rattle.history_book.proofs.WriterLaws.{seen_at}
-use Rattle.history_book.proofs.orders.writers.last_seen.Goals as goal
-
-pub returns : goal.returns
-returns c = λ start cut.
-    c.copied.ensures ∙ c.last.ensures.value ∙ seen_at start c.args.numbers.now c.args.count cut c.requires

@@ -1,0 +1,27 @@
+pub mod CycleLaws
+pub mod DependencyRelations
+pub mod FreeLaws
+pub mod HorizonLaws
+pub mod InTurn
+pub mod LateLaws
+pub mod LeastFree
+pub mod NearbyLaws
+pub mod NumberLists
+pub mod OrderLaws
+pub mod PairLaws
+pub mod PlacedLaws
+pub mod PlacingLaws
+mod PlacingVectors
+pub mod PrecedenceLaws
+pub mod ReasonLaws
+pub mod ReducedLaws
+pub mod RegionPairs
+pub mod RiseLaws
+pub mod RunsInOrder
+pub mod SightPairs
+pub mod TestLaws
+pub mod TracePairs
+pub mod TraceReach
+pub mod WaitLaws
+pub mod WalkLaws
+pub mod WriterLaws

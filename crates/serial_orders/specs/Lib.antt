@@ -1,0 +1,12 @@
+pub mod DependsBy
+pub mod Horizons
+pub mod Late
+pub mod Nearby
+pub mod Orders
+pub mod Placing
+pub mod Precedence
+pub mod Reasons
+pub mod Reduced
+pub mod Texts
+pub mod Traces
+pub mod TraceView
