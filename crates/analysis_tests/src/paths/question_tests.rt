@@ -6,7 +6,7 @@ use example_sets::{LEDGER, MOVE, SMALL_BANK, TRANSFER};
 use order_facts::{Closed, Fact, Node};
 use prog_paths::{
     Access, Changers, Column, Path, Placed, Term, all_places, closed_facts, column_or_zero,
-    mine_node, program_places, question_facts, second_terms, their_node,
+    least_cover, mine_node, program_places, question_facts, second_terms, their_node,
 };
 use std::alloc::{AllocError, Global};
 use std::process::Abort;
@@ -29,15 +29,16 @@ fn access_at(paths: &[Path], place: (usize, usize)) -> Option<&Access> {
     paths.get(place.0)?.accesses.as_slice().get(place.1)
 }
 
-/// The facts of an example, closed.
+/// The facts of the question between two accesses, closed.
 fn closed(
     rt: &impl Abort,
     alloc: Global,
     paths: &[Path],
-    example: &Example,
+    mine: (usize, usize),
+    theirs: (usize, usize),
 ) -> Result<Closed, AllocError> {
-    let mine = access_at(paths, example.mine).expect(rt, "the access is there");
-    let theirs = access_at(paths, example.theirs).expect(rt, "the access is there");
+    let mine = access_at(paths, mine).expect(rt, "the access is there");
+    let theirs = access_at(paths, theirs).expect(rt, "the access is there");
     closed_facts(alloc, mine, theirs)
 }
 
@@ -56,7 +57,7 @@ fn compare(rt: &impl Abort, facts: &Closed, example: &Example) {
 
 fn check(rt: &impl Abort, alloc: Global, example: &Example) -> Result<(), Fail> {
     let paths = paths_of(alloc, example.text)?;
-    let facts = closed(rt, alloc, &paths, example);
+    let facts = closed(rt, alloc, &paths, example.mine, example.theirs);
     drop(paths);
     let facts = facts?;
     compare(rt, &facts, example);
@@ -156,6 +157,48 @@ const MOVED: Example = Example {
 #[test]
 fn an_unknown_is_no_parameter(rt: HostRuntime) -> Result<(), Fail> {
     check(&rt, rt.alloc(), &MOVED)
+}
+
+/// Questions of sets, each by its two accesses, and the least pair that covers each.
+const COVERS: [(&str, (usize, usize), (usize, usize), Option<(usize, usize)>); 4] = [
+    (TRANSFER, (0, 0), (0, 1), Some((1, 1))),
+    (TRANSFER, (0, 0), (0, 3), Some((1, 3))),
+    (TRANSFER, (0, 2), (0, 1), Some((3, 1))),
+    // A check reads the savings, and changes nothing there.
+    (SMALL_BANK, (4, 0), (2, 1), None),
+];
+
+/// The accesses of the path of a number.
+fn accesses_of<'a>(rt: &impl Abort, paths: &'a [Path], node: usize) -> &'a [Access] {
+    let path = paths.get(node).expect(rt, "the path is there");
+    path.accesses.as_slice()
+}
+
+/// The least pair that covers the question between two accesses.
+fn cover_of(
+    rt: &impl Abort,
+    alloc: Global,
+    paths: &[Path],
+    mine: (usize, usize),
+    theirs: (usize, usize),
+) -> Result<Option<(usize, usize)>, AllocError> {
+    let facts = closed(rt, alloc, paths, mine, theirs)?;
+    let first = accesses_of(rt, paths, mine.0);
+    let second = accesses_of(rt, paths, theirs.0);
+    let cover = least_cover(&facts, first, second);
+    drop(facts);
+    Ok(cover)
+}
+
+#[test]
+fn the_least_pair_of_changes_covers(rt: HostRuntime) -> Result<(), Fail> {
+    for &(text, mine, theirs, wanted) in COVERS.iter() {
+        let paths = paths_of(rt.alloc(), text)?;
+        let cover = cover_of(&rt, rt.alloc(), &paths, mine, theirs);
+        drop(paths);
+        assert!(rt; cover? == wanted, "{mine:?} {theirs:?} of {text}");
+    }
+    Ok(())
 }
 
 /// Whether these are the facts of an example, in this order.
