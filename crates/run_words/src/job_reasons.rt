@@ -55,7 +55,7 @@ fn first_arguments(args: &[i64]) -> &[i64]
     args.get(..MAX_ARGUMENTS).unwrap_or(args)
 }
 
-// That there are so many more.
+// That there are more, where there are.
 fn further_arguments(count: usize) -> &'static str
     ensures { result.now ≡ further_arguments count }
 {
@@ -132,7 +132,7 @@ fn sentence(
     format!(in alloc; "{call}, {reason}")
 }
 
-/// The same of the job of a number, and of what came of it.
+/// The call of the job of a number, and why it did not commit.
 pub fn job_sentence(
     alloc: Global,
     set: &ProgramSet,

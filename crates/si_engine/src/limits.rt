@@ -1,9 +1,9 @@
 //! How much of the input is taken.
 
-/// The most bytes of a part of the input.
+/// The most bytes that are read of a source.
 pub const MAX_INPUT_BYTES: usize = 16_777_216;
 
-/// The most reads that a part takes: one for each byte, and one that tells its end.
+/// The most reads of a source: one for each byte, and one that tells its end.
 pub const MAX_READS: usize = 16_777_217;
 
 /// The most events of a script.

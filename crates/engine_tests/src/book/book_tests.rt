@@ -131,10 +131,6 @@ const ALTERED: &[(Call, Answer)] = &[
         Call::Commit(ELSEWHERE),
         Answer::ForeignRun(Difference::Program),
     ),
-    (
-        Call::Commit(INVENTED),
-        Answer::ForeignRun(Difference::Look(0)),
-    ),
     (Call::Commit(UNMOVED), Answer::WrongEnd),
     (Call::Commit(LOOKED), Answer::Committed(1)),
 ];

@@ -2,11 +2,9 @@
 
 use example_sets::set_of;
 use prog_check::ProgramSet;
-use prog_tree::{Cell, Rows};
 use si_engine::{
-    Bytes, LineWord, Records, add_row, cut, is_skipped, line_words, number, number_between,
-    numbers, program_number, read_lines, read_part, read_script, row_line, table_number, unsigned,
-    without_return,
+    Bytes, LineWord, Records, cut, line_words, number, numbers, program_number, read_lines,
+    read_part, read_script, unsigned, without_return,
 };
 use std::alloc::Global;
 use std::process::Abort;
@@ -17,21 +15,6 @@ table t 2;
 program Look(k) { reply k; }
 program Find(k) { reply k; }
 ";
-
-const CELL: Cell = Cell {
-    table: 1,
-    first: 7,
-    second: -7,
-};
-
-// What the cell holds after the row of a line was added; the table `t` is the second.
-fn held_after(rt: &impl Abort, alloc: Global, set: &ProgramSet, line: &[u8]) -> Option<i64> {
-    let words = line_words(alloc, line).expect(rt, "memory");
-    let row = row_line(set, 1, words.as_slice()).expect(rt, "a row");
-    let mut rows = Rows::new(alloc);
-    add_row(&mut rows, 1, false, row).expect(rt, "a row that is new");
-    rows.get(&CELL)
-}
 
 fn check_numbers(rt: &impl Abort, alloc: Global, line: &[u8], wanted: &[i64]) {
     let words = line_words(alloc, line).expect(rt, "memory");
@@ -58,9 +41,7 @@ fn lines_are_words(rt: HostRuntime) {
 fn numbers_are_read(rt: HostRuntime) {
     check_numbers(&rt, rt.alloc(), b"1 -2", &[1, -2]);
     assert!(rt; number(b"-007") == Some(-7) && number(b"+7") == None);
-    assert!(rt; number_between(1, 64, b"64") == Some(64));
     assert!(rt; unsigned(b"18446744073709551615") == Some(u64::MAX));
-    assert!(rt; is_skipped(b"# Find"));
 }
 
 #[test]
@@ -100,12 +81,9 @@ fn script_counts(rt: &impl Abort, alloc: Global, set: &ProgramSet) -> (usize, us
 }
 
 #[test]
-fn rows_names_and_parts_are_read(rt: HostRuntime) -> Result<(), Fail> {
+fn names_and_parts_are_read(rt: HostRuntime) -> Result<(), Fail> {
     let set = set_of(rt.alloc(), SET)?;
-    let held = held_after(&rt, rt.alloc(), &set, b"t  7 -007 = 4");
-    assert!(rt; held == Some(4));
     assert!(rt; program_number(&set, b"Find") == Some(1));
-    assert!(rt; table_number(&set, b"t") == Some(1));
     assert!(rt; counts(&rt, rt.alloc(), &set) == (1, 1));
     assert!(rt; counts_at_hand(&rt, rt.alloc(), &set) == (1, 1));
     assert!(rt; script_counts(&rt, rt.alloc(), &set) == (1, 4));

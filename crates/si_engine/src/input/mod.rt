@@ -1,4 +1,4 @@
-//! From a source to scripts and lists of records.
+//! From a source to scripts, and to lists of rows and items.
 
 pub mod bytes;
 pub mod command;

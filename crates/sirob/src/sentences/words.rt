@@ -1,4 +1,4 @@
-//! What is said to people on the standard error.
+//! Which sentence is said of how a command ended.
 
 use crate::command_fault::CommandFault;
 use crate::command_line::Mode;
