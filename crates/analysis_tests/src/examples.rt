@@ -2,6 +2,7 @@
 
 use example_sets::set_of;
 use prog_paths::{Path, paths};
+use robust_cert::Certificate;
 use std::alloc::{AllocError, Global};
 use std::test::Fail;
 
@@ -21,6 +22,12 @@ pub const KEPT_PAYS: &str =
 pub const KEPT_REPORTS: &str =
     "{\"entries\":[[\"cover\",2,2,0,2,0,0,[[[\"m\",0],[\"t\",0]],[[\"t\",0],[\"m\",0]]]]],\
     \"levels\":[3,3,3],\"version\":1}";
+
+/// How many reasons a certificate keeps.
+pub fn reason_count(certificate: &Certificate) -> usize {
+    let (_, reasons) = certificate.entries.parts();
+    reasons.len()
+}
 
 /// Five branches, and these pairs of a read and a write.
 fn push_wide_body(text: &mut String, pairs: usize) -> Result<(), AllocError> {

@@ -266,23 +266,18 @@ pub(crate) fn work<'a, D: Desk<'a>>(
     ensures drawn { AreDrawn result.reports.items (numbers_of result.pass) }
 {
     let mut reports = Vec::new(alloc);
+    let mut no_memory = false;
     for _turn in 0..jobs.len() {
         if reports.reserve(1).is_err() {
-            return Done {
-                pass,
-                reports,
-                no_memory: true,
-            };
+            no_memory = true;
+            break;
         }
         match draw_job(alloc, set, desk, jobs, counter, &mut pass) {
             Ok(Some(report)) => reports.push_reserved(report),
             Ok(None) | Err(Stop::Lost) => break,
             Err(Stop::NoMemory) => {
-                return Done {
-                    pass,
-                    reports,
-                    no_memory: true,
-                };
+                no_memory = true;
+                break;
             }
         }
         if reports.len() % VACUUM_AFTER == 0 {
@@ -292,6 +287,6 @@ pub(crate) fn work<'a, D: Desk<'a>>(
     Done {
         pass,
         reports,
-        no_memory: false,
+        no_memory,
     }
 }

@@ -1,6 +1,6 @@
 //! Certificates as text, told by hand.
 
-use crate::examples::{KEPT_PAYS, KEPT_REPORTS};
+use crate::examples::{KEPT_PAYS, KEPT_REPORTS, reason_count};
 use example_sets::TRANSFER_CERTIFICATE;
 use order_facts::{Node, Nodes};
 use prog_tree::Sequence;
@@ -274,11 +274,6 @@ fn threads_write_a_long_text_as_it_was_read(rt: HostRuntime) {
 #[test]
 fn threads_write_a_short_text_as_it_was_read(rt: HostRuntime) {
     assert!(rt; is_written_by_threads(&rt, rt.alloc(), KEPT_PAYS));
-}
-
-fn reason_count(certificate: &Certificate) -> usize {
-    let (_, reasons) = certificate.entries.parts();
-    reasons.len()
 }
 
 /// How many reasons are kept of a certificate that was read.

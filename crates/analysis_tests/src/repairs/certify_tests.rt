@@ -1,7 +1,7 @@
 //! What the analysis of sets finds: the text of a certificate, or the least dangerous structure.
 
 use crate::dangers::{DANGEROUS, shown};
-use crate::examples::{KEPT_PAYS, KEPT_REPORTS};
+use crate::examples::{KEPT_PAYS, KEPT_REPORTS, reason_count};
 use crate::repairs::sets::{APART, APART_TWICE, COLUMNS, KEPT_REPORT};
 use crate::told::is_told;
 use example_sets::{KEPT_PAY, LEDGER, TRANSFER, TRANSFER_CERTIFICATE, set_of};
@@ -97,12 +97,9 @@ fn covers_are_told_with_their_chains(rt: HostRuntime) -> Result<(), Fail> {
     Ok(())
 }
 
-fn reason_count(finding: &Finding) -> usize {
+fn found_reasons(finding: &Finding) -> usize {
     match finding {
-        Finding::Robust(certificate) => {
-            let (_, reasons) = certificate.entries.parts();
-            reasons.len()
-        }
+        Finding::Robust(certificate) => reason_count(certificate),
         Finding::Refused(_) => 0,
     }
 }
@@ -113,7 +110,7 @@ fn reasons_kept(alloc: Global, text: &str) -> Result<usize, Fail> {
     let found = certify(alloc, &set);
     drop(set);
     let finding = found?;
-    let count = reason_count(&finding);
+    let count = found_reasons(&finding);
     drop(finding);
     Ok(count)
 }
