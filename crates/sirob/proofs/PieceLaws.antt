@@ -9,19 +9,20 @@ use Rattle.dep_graph.specs.declared.danger.Danger.{Danger}
 use Rattle.dep_graph.specs.Danger.{IsLeastDanger}
 use Rattle.robust_cert.specs.declared.certificate.Certificate.{Certificate}
 use Rattle.robust_cert.specs.Accepted.{IsAccepted}
-use Rattle.robust_cert.specs.Json.{certificate_text}
+use Rattle.robust_cert.specs.Json.{CertificateFits, certificate_text}
+use Rattle.robust_cert.proofs.Again.{is_either}
 use Rattle.robust_cert.specs.Pieces.{TextLeft, text_left}
 use Rattle.si_engine.specs.Writing.{AppendsFront, IsJust}
 use Rattle.si_engine.proofs.SinkLaws.{front_behind}
-use Rattle.si_repair.specs.Findings.{IsCertificateOf}
+use Rattle.si_repair.specs.Findings.{AsksFew, IsCertificateOf}
 use Rattle.sirob.specs.declared.command_fault.CommandFault.{CommandFault}
 use Rattle.sirob.specs.declared.command_line.Mode.TheVariants.{Certify}
 use Rattle.sirob.specs.declared.status.Status.{Status}
 use Rattle.sirob.specs.declared.status.Status.TheVariants as status
 use Rattle.sirob.specs.FaultLines.{is_memory}
-use Rattle.sirob.specs.Inputs.{AsksFew, IsChecked}
+use Rattle.sirob.specs.Inputs.{IsChecked}
 use Rattle.sirob.specs.Refusal.{refusal_text}
-use Rattle.sirob.specs.Stops.{IsInputDone, IsStop, IsTextOrStop, WritesWithEnd, write_lost}
+use Rattle.sirob.specs.Stops.{IsCertificateOrStop, IsInputDone, IsStop, IsTextOrStop, WritesWithEnd, write_lost}
 use Rattle.sirob.proofs.StopLaws.{front_before, stops_at_once}
 
 -- ---- pieces
@@ -81,11 +82,21 @@ stopped_input : (input : List ℕ) (f : CommandFault) (written : List ℕ) → w
 stopped_input input f written none memory =
     subst (IsStop Certify input f) (sym none) (stops_at_once Certify input f (λ no_memory. absurd (false≢true (sym no_memory ∙ memory))))
 
+-- what was written of a certificate whose numbers fit is read as it
+pub certificate_given : (certificate : Certificate) → CertificateFits certificate → (written : List ℕ) (ended : Result Status CommandFault)
+    → IsTextOrStop (certificate_text certificate ++ 10 ∷ []) status.Done written ended → IsCertificateOrStop certificate written ended
+certificate_given certificate fits written (Ok s) given = (given, is_either certificate fits written (certificate_text certificate) refl (inr given.0.0))
+certificate_given certificate fits written (Err f) given = (given, tt)
+
+pub certificate_stopped : (certificate : Certificate) (f : CommandFault) (failed : Bool) (old : Option (List ℕ)) → failed ≡ false → is_memory f ≡ true → WritesWithEnd (IsCertificateOrStop certificate) failed old old (Err f)
+certificate_stopped certificate f true old works memory = absurd (false≢true (sym works))
+certificate_stopped certificate f false old works memory = ([], ((tt, (refl, memory)), tt), Appends-nil old)
+
 pub certificate_done : (input : List ℕ) (set : DraftTree) (certificate : Certificate) → IsChecked input set → IsAccepted (paths_of set) certificate → IsCertificateOf (paths_of set) certificate
-    → (written : List ℕ) (ended : Result Status CommandFault) → IsTextOrStop (certificate_text certificate ++ 10 ∷ []) status.Done written ended → IsInputDone Certify input written ended
+    → (written : List ℕ) (ended : Result Status CommandFault) → IsCertificateOrStop certificate written ended → IsInputDone Certify input written ended
 certificate_done input set certificate checked accepted own written (Ok s) given =
-    ((set, checked, inl (record { certificate = certificate; accepted = accepted; own = own; text = given.0.0; status = given.0.1 })), tt)
-certificate_done input set certificate checked accepted own written (Err f) given = (tt, stopped_input input f written given.1.0 given.1.1)
+    ((set, checked, inl (record { certificate = certificate; accepted = accepted; own = own; text = given.0.0.0; read = given.1; status = given.0.0.1 })), tt)
+certificate_done input set certificate checked accepted own written (Err f) given = (tt, stopped_input input f written given.0.1.0 given.0.1.1)
 
 pub refusal_done : (input : List ℕ) (set : DraftTree) (danger : Danger) → IsChecked input set → AsksFew set → IsLeastDanger (paths_of set) danger
     → (written : List ℕ) (ended : Result Status CommandFault) → IsTextOrStop (refusal_text set danger) status.Unserializable written ended → IsInputDone Certify input written ended

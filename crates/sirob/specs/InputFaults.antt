@@ -4,11 +4,10 @@ use Rattle.prog_tree.specs.Syntax.{DraftTree}
 use Rattle.prog_text.specs.Answer.{Accepts, Refuses}
 use Rattle.prog_check.specs.Faults.{first_fault}
 use Rattle.prog_check.specs.Paths.{paths_of}
-use Rattle.prog_paths.specs.Questions.{questions_of}
-use Rattle.prog_paths.specs.Limits.{most_questions}
 use Rattle.robust_cert.specs.declared.certificate.Certificate.{Certificate}
 use Rattle.robust_cert.specs.Reading.{HasFault, IsTextOf}
 use Rattle.robust_cert.specs.Refused.{IsFirstFault}
+use Rattle.si_repair.specs.Findings.{AsksTooMany}
 use Rattle.si_repair.specs.declared.fault.AnalyseFault.{AnalyseFault}
 use Rattle.si_repair.specs.declared.fault.AnalyseFault.TheVariants as analyse_fault
 use Rattle.si_repair.specs.declared.repairs.fault.RepairFault.{RepairFault}
@@ -56,7 +55,7 @@ IsFaultOfInput wanted input f =
 
 -- the set is not analysed
 abbrev pub IsUnanalysed : DraftTree → AnalyseFault → Type 0
-IsUnanalysed set analyse_fault.TooLarge = most_questions < length (questions_of (paths_of set))
+IsUnanalysed set analyse_fault.TooLarge = AsksTooMany set
 IsUnanalysed set analyse_fault.Memory = ⊥
 
 -- the set is analysed for a command, before its second part is looked at

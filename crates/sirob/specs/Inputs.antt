@@ -4,19 +4,16 @@ use Rattle.prog_tree.specs.Syntax.{DraftTree}
 use Rattle.prog_text.specs.Answer.{Accepts}
 use Rattle.prog_check.specs.Faults.{first_fault}
 use Rattle.prog_check.specs.Paths.{paths_of}
-use Rattle.prog_paths.specs.Questions.{questions_of}
-use Rattle.prog_paths.specs.Limits.{most_questions}
-use Rattle.prog_paths.specs.StaticGraph.{IsDangerous}
 use Rattle.repair_laws.specs.declared.plan.Pair.{Pair}
 use Rattle.repair_laws.specs.Materialised.{IsMaterialised}
 use Rattle.repair_laws.specs.Plans.{IsPlan}
-use Rattle.repair_laws.specs.Meaning.{KeepsAllMeaning}
 use Rattle.repair_laws.specs.Promoted.{IsPromoted}
 use Rattle.repair_laws.specs.Refusals.{StopReason, StopsMaterialising, StopsPromotion}
 use Rattle.robust_cert.specs.declared.certificate.Certificate.{Certificate}
 use Rattle.robust_cert.specs.Accepted.{IsAccepted}
 use Rattle.si_repair.specs.declared.repairs.fault.RepairFault.{RepairFault}
-use Rattle.si_repair.specs.Repairing.{IsRepairFault, StopsNowhere}
+use Rattle.si_repair.specs.Findings.{AsksFew}
+use Rattle.si_repair.specs.Repairing.{IsCarriedOut, IsRepairFault}
 use Rattle.history_book.specs.declared.instances.row.HistoryRow.{HistoryRow}
 use Rattle.history_book.specs.History.{IsLawful}
 use Rattle.history_book.specs.TrueBook.{IsTrueRow}
@@ -70,10 +67,6 @@ IsChecked input set = HasSet input set []
 abbrev pub HasPart : (input : List ℕ) → (set : DraftTree) → (part : List ℕ) → Type 0
 HasPart input set part = HasSet input set (part ∷ [])
 
--- the set asks no more questions than an analysis may have
-abbrev pub AsksFew : DraftTree → Type 0
-AsksFew set = length (questions_of (paths_of set)) ≤ most_questions
-
 -- some certificate is accepted for the set, so that it has no dangerous structure
 pub record IsRobust (set : DraftTree) : Type 0 where
   pub certificate : Certificate
@@ -107,15 +100,13 @@ abbrev pub StopsRepair : (promote : Bool) → DraftTree → List Pair → ℕ �
 StopsRepair true = StopsPromotion
 StopsRepair false = StopsMaterialising
 
--- the set's plan, and what it makes of the set: a robust set whose programs mean the same
+-- the set's plan, carried out: a set without a dangerous structure, which asks as many questions, and whose programs mean
+-- the same
 pub record IsRepaired (promote : Bool) (set repaired : DraftTree) : Type 0 where
   pub few : AsksFew set
   pub plan : List Pair
   pub planned : IsPlan (paths_of set) plan
-  pub clear : StopsNowhere (StopsRepair promote set plan) plan
-  pub made : IsRepairBy promote set plan repaired
-  pub robust : ¬ IsDangerous (paths_of repaired)
-  pub meaning : KeepsAllMeaning set repaired
+  pub carried_out : IsCarriedOut (IsRepairBy promote) (StopsRepair promote) set plan repaired
 
 -- the set is analysed, but a pair of its plan stops the repair
 pub record IsUnrepaired (promote : Bool) (set : DraftTree) (f : RepairFault) : Type 0 where

@@ -10,7 +10,7 @@ use Rattle.robust_cert.specs.declared.certificate.Certificate.{Certificate}
 use Rattle.robust_cert.specs.Accepted.{IsAccepted}
 use Rattle.robust_cert.specs.Json.{certificate_text}
 use Rattle.robust_cert.specs.Reading.{IsTextOf}
-use Rattle.si_repair.specs.Findings.{IsCertificateOf}
+use Rattle.si_repair.specs.Findings.{AsksFew, IsCertificateOf}
 use Rattle.history_book.specs.declared.instances.row.HistoryRow.{HistoryRow}
 use Rattle.history_book.specs.View.{BookView, history_of}
 use Rattle.si_engine.specs.declared.output.finding.Serializability.{Serializability}
@@ -37,15 +37,22 @@ use Rattle.sirob.specs.FaultLines.{fault_line, is_memory}
 use Rattle.sirob.specs.Refusal.{refusal_text}
 use Rattle.sirob.specs.Status.{status_of}
 use Rattle.sirob.specs.Work.{work_text}
-use Rattle.sirob.specs.Inputs.{IsChecked, HasPart, AsksFew, IsRobust, MayRun, IsAudited, audit_lines, IsRepaired}
+use Rattle.sirob.specs.Inputs.{IsChecked, HasPart, IsRobust, MayRun, IsAudited, audit_lines, IsRepaired}
 use Rattle.sirob.specs.InputFaults.{IsFaultOf}
 
--- the text of a certificate of the set, which is accepted for it, and a line feed
+-- the part is a certificate that is accepted for the set
+pub record ShowsRobust (set : DraftTree) (part : List ℕ) : Type 0 where
+  pub certificate : Certificate
+  pub read : IsTextOf certificate part
+  pub accepted : IsAccepted (paths_of set) certificate
+
+-- the text of a certificate of the set and a line feed, which is read as this certificate; and it is accepted for the set
 pub record GivesCertificate (set : DraftTree) (written : List ℕ) (ended : Status) : Type 0 where
   pub certificate : Certificate
   pub accepted : IsAccepted (paths_of set) certificate
   pub own : IsCertificateOf (paths_of set) certificate
   pub text : written ≡ certificate_text certificate ++ 10 ∷ []
+  pub read : IsTextOf certificate written
   pub status : ended ≡ Done
 
 -- the refusal of the set by its least dangerous structure
@@ -67,12 +74,6 @@ pub record GivesRepaired (promote : Bool) (set : DraftTree) (written : List ℕ)
   pub sound : first_fault repaired ≡ None
   pub text : written ≡ canonical repaired
   pub status : ended ≡ Done
-
--- the part is a certificate that is accepted for the set
-pub record ShowsRobust (set : DraftTree) (part : List ℕ) : Type 0 where
-  pub certificate : Certificate
-  pub read : IsTextOf certificate part
-  pub accepted : IsAccepted (paths_of set) certificate
 
 -- how a run may end: on a robust set in an order, and else in an order or a cycle
 abbrev pub MayEnd : (robust : Bool) → Serializability → Type 0

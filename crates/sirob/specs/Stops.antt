@@ -1,8 +1,11 @@
 -- How the steps of a command end: words of their contracts, and of no promise.
-use Rattle.std.specs.Prelude.{◌≡◌, ◌⊎◌, ℕ, ◌≤◌, Bool, true, false, List, [], length, Option, Result, Ok, Err, IfOk, IfErr, string_bytes}
+use Rattle.std.specs.Prelude.{◌≡◌, ◌⊎◌, ◌++◌, ℕ, ◌≤◌, Bool, true, false, List, [], ◌∷◌, length, Option, Result, Ok, Err, IfOk, IfErr, string_bytes}
 use Rattle.prog_tree.specs.declared.program.Draft.{Draft}
 use Rattle.prog_tree.specs.Syntax.{DraftTree}
 use Rattle.prog_tree.specs.Tree.{draft_tree}
+use Rattle.robust_cert.specs.declared.certificate.Certificate.{Certificate}
+use Rattle.robust_cert.specs.Json.{certificate_text}
+use Rattle.robust_cert.specs.Reading.{IsTextOf}
 use Rattle.si_repair.specs.declared.fault.AnalyseFault.{AnalyseFault}
 use Rattle.si_repair.specs.declared.repairs.fault.RepairFault.{RepairFault}
 use Rattle.si_engine.specs.declared.output.finding.Serializability.{Serializability}
@@ -20,7 +23,7 @@ use Rattle.sirob.specs.declared.commands.robust.Verified.TheVariants as verified
 use Rattle.sirob.specs.declared.command_fault.CommandFault.{CommandFault}
 use Rattle.sirob.specs.declared.command_fault.CommandFault.TheVariants as fault
 use Rattle.sirob.specs.declared.status.Status.{Status}
-use Rattle.sirob.specs.declared.status.Status.TheVariants.{Unserializable, Faulty, Memory}
+use Rattle.sirob.specs.declared.status.Status.TheVariants.{Done, Unserializable, Faulty, Memory}
 use Rattle.sirob.specs.FaultLines.{fault_line, is_memory}
 use Rattle.sirob.specs.InputFaults.{IsUnanalysed, IsFaultOf, IsFaultOfPart}
 use Rattle.sirob.specs.Inputs.{HasPart, IsRobust, IsUnrepaired}
@@ -57,6 +60,12 @@ IsVerified set (verified.Refused text) = GivesRefusal (draft_tree set) (string_b
 abbrev pub IsTextOrStop : List ℕ → Status → List ℕ → Result Status CommandFault → Type 0
 IsTextOrStop text status written ended =
     IfOk ended (λ s. (written ≡ text) × (s ≡ status)) × IfErr ended (λ f. (written ≡ []) × (is_memory f ≡ true))
+
+-- the text of a certificate and a line feed, which is read as this certificate; or nothing for want of memory
+abbrev pub IsCertificateOrStop : Certificate → List ℕ → Result Status CommandFault → Type 0
+IsCertificateOrStop certificate written ended =
+    IsTextOrStop (certificate_text certificate ++ 10 ∷ []) Done written ended
+    × IfOk ended (λ s. IsTextOf certificate written)
 
 -- ---- a second part
 

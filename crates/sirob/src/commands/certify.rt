@@ -1,15 +1,14 @@
 //! The command `certify`: from the bytes of its input to a certificate or the refusal of their set.
-ghost use Rattle.std.specs.Prelude.{◌≡◌, ◌≤◌, ◌++◌, false, [], ◌∷◌, length, IfOk, IfErr};
+ghost use Rattle.std.specs.Prelude.{◌≡◌, ◌≤◌, false, [], length, IfOk, IfErr};
 ghost use Rattle.prog_check.specs.Paths.{paths_of};
 ghost use Rattle.prog_tree.specs.Tree.{draft_tree};
-ghost use Rattle.robust_cert.specs.Json.{certificate_text};
 ghost use Rattle.si_engine.specs.Limits.{input_limit};
-ghost use Rattle.si_repair.specs.Findings.{IsRightFinding};
+ghost use Rattle.si_repair.specs.Findings.{AsksFew, IsRightFinding};
 ghost use Rattle.sirob.specs.FaultLines.{is_memory};
-ghost use Rattle.sirob.specs.Inputs.{AsksFew, IsChecked};
+ghost use Rattle.sirob.specs.Inputs.{IsChecked};
 ghost use Rattle.sirob.specs.Refusal.{refusal_text};
-ghost use Rattle.sirob.specs.Stops.{IsStop, IsInputDone, IsTextOrStop, IsUnanalysedBy};
-ghost use Rattle.sirob.specs.Stops.{WritesWithEnd};
+ghost use Rattle.sirob.specs.Stops.{IsCertificateOrStop, IsInputDone, IsStop, IsTextOrStop};
+ghost use Rattle.sirob.specs.Stops.{IsUnanalysedBy, WritesWithEnd};
 ghost use Rattle.sirob.specs.declared.command_line.Mode.TheVariants as mode;
 ghost use Rattle.sirob.specs.declared.status.Status.TheVariants as status;
 
@@ -34,7 +33,7 @@ fn write_certificate<K: Sink>(
     sink: &mut K,
 ) -> Result<Status, CommandFault>
     requires { K.has_failed sink.old ≡ false }
-    ensures { WritesWithEnd (IsTextOrStop (certificate_text certificate.now ++ 10 ∷ []) status.Done)
+    ensures { WritesWithEnd (IsCertificateOrStop certificate.now)
         (K.has_failed sink.new) (K.taken sink.old) (K.taken sink.new) result }
 {
     let mut text = CertificateText::for_threads(rt.alloc(), certificate)?;

@@ -1,13 +1,12 @@
-use Rattle.std.proofs.Common.{Err, [], ◌∷◌, ◌++◌, subst}
+use Rattle.std.proofs.Common.{Err, subst}
 use Rattle.prog_check.specs.Paths.{paths_of}
 use Rattle.prog_tree.specs.Tree.{draft_tree}
-use Rattle.robust_cert.specs.Json.{certificate_text}
 use Rattle.si_engine.proofs.SinkLaws.{writes_as}
 use Rattle.si_repair.specs.Findings.{IsRightFinding}
 use Rattle.sirob.specs.declared.command_line.Mode.TheVariants.{Certify}
 use Rattle.sirob.specs.declared.status.Status.TheVariants as status
 use Rattle.sirob.specs.Refusal.{refusal_text}
-use Rattle.sirob.specs.Stops.{IsInputDone, IsTextOrStop, write_lost}
+use Rattle.sirob.specs.Stops.{IsCertificateOrStop, IsInputDone, IsTextOrStop, write_lost}
 use Rattle.sirob.proofs.PieceLaws.{certificate_done, refusal_done}
 use Rattle.sirob.proofs.commands.certify.certify_input.Goals as goal
 
@@ -17,7 +16,7 @@ returns-in-Robust g c =
     let set = draft_tree c.in_ok-set.set in
     let certificate = c.in-Robust.certificate in
     let right = subst (IsRightFinding (paths_of set)) c.in-Robust.is c.in_ok-set.ensures.ok.2 in
-    writes_as (Err write_lost) (IsTextOrStop (certificate_text certificate ++ 10 ∷ []) status.Done) (IsInputDone Certify input) _ _ _ _
+    writes_as (Err write_lost) (IsCertificateOrStop certificate) (IsInputDone Certify input) _ _ _ _
     (certificate_done input set certificate c.in_ok-set.ensures.ok.0 right.0 right.1) c.write_certificate-ended.ensures
 
 pub returns : goal.returns

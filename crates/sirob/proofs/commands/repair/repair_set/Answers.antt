@@ -14,10 +14,10 @@ returns-clause-ok c =
           let made = w.in_ok-repaired.ensures.repaired in
           rw w.repaired-is
           (repaired_by c.args.promoting true set (draft_tree w.in_ok-repaired.repaired) pairs w.if-promoting.true
-          planned.in_bounds planned.plan made.goes made.made (made.safe.robust planned.plan) made.safe.meaning)
+          planned.in_bounds planned.plan made)
       | else-promoting+in_ok-repaired-2 w ↦
           let made = w.in_ok-repaired-2.ensures.repaired in
           rw w.repaired-is
           (repaired_by c.args.promoting false set (draft_tree w.in_ok-repaired-2.repaired) pairs w.if-promoting.false
-          planned.in_bounds planned.plan made.goes made.made (made.safe.robust planned.plan) made.safe.meaning)
+          planned.in_bounds planned.plan made)
     ]
