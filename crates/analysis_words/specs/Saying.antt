@@ -30,7 +30,7 @@ abbrev pub level_text : Sight → Certificate → (node : ℕ) → List ℕ
 level_text sight certificate node =
     decimal (level_of certificate node) ++ (codes " of " ++ node_name sight node)
 
--- the levels of nodes, as ``2 of `Pay:t`, 3 of `Pay:f` ``
+-- the levels of nodes, as ``2 of `Pay:t`, 3 of `Pay:e` ``
 abbrev pub level_list : Sight → Certificate → (nodes : List ℕ) → List ℕ
 level_list sight certificate nodes = listed (map (level_text sight certificate) nodes)
 

@@ -75,9 +75,9 @@ const EACH_BRACKETS: &str =
 const OTHER_LOOP: &str =
     "rows are gone through by `each k, v in t[low..high] { .. }`; there is no other loop";
 
-/// `each k, v in t {`
-const NO_KEY: &str =
-    "behind a table stands a key or a range in `[` and `]`; all rows are `[least..greatest]`";
+/// `each k, v in t {`, `delete t;`
+const NO_KEY: &str = "behind a table stands a key in `[` and `]`, or for `count`, `sum` and `each` \
+    a range; all rows are `[least..greatest]`";
 
 /// `count t[1]`
 const ONE_END: &str = "a range has two ends: write `[low..high]`; all rows are `[least..greatest]`";
@@ -277,8 +277,17 @@ pub fn case_words(alloc: Global, name: &str, place: &str) -> Result<String, Allo
 }
 
 fn minus_words(alloc: Global, token: &str) -> Result<String, AllocError> {
-    let term = if token == "(" { "(..)" } else { token };
-    format!(in alloc; "only a number has a minus before it: write `(0 - {term})`")
+    let instead = match token {
+        "least" => return format!(in alloc;
+            "only a number has a minus before it; no number is `-least`"
+        ),
+        "greatest" => "(least + 1)",
+        "(" => "(0 - (..))",
+        term => return format!(in alloc;
+            "only a number has a minus before it: write `(0 - {term})`"
+        ),
+    };
+    format!(in alloc; "only a number has a minus before it: write `{instead}`")
 }
 
 /// What a slip is, and what to write instead.

@@ -254,7 +254,9 @@ fn too_deep(alloc: Global, text: &[u8], place: usize) -> Result<String, AllocErr
 
 fn out_of_range(alloc: Global) -> Result<String, AllocError> {
     let greatest = i64::MAX;
-    format!(in alloc; "a number above {greatest}, the greatest there is (`greatest`)")
+    format!(in alloc;
+        "a number above {greatest}, the greatest there is (`greatest`); the least is `least`"
+    )
 }
 
 fn name_too_long(alloc: Global) -> Result<String, AllocError> {

@@ -123,6 +123,7 @@ pub fn no_number<'a>(words: &[&'a str]) -> Option<&'a str> {
     match words {
         ["job", retries, ..] if !is_retries(*retries) => Some(*retries),
         ["begin-at", start, ..] if !is_number(*start, "at") => Some(*start),
+        ["vacuum", ..] => None,
         [first, ..] => no_number_from(words, line_form(*first).words_before_numbers),
         [] => None,
     }

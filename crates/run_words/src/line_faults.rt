@@ -25,6 +25,8 @@ fn other_beginning(alloc: Global, kind: PartKind, first: &str) -> Result<String,
     format!(in alloc; "no line begins with `{first}`; {known}")
 }
 
+const TAB: &str = "a tab stands in this line; words are separated by spaces alone";
+
 fn bad_line(
     alloc: Global,
     kind: PartKind,
@@ -36,10 +38,16 @@ fn bad_line(
             "a carriage return stands in this line; but for one at its end a line has none"
         );
     }
+    if (&*line).contains(&b'\t') {
+        return format!(in alloc; "{TAB}");
+    }
     let [first, ..] = words else {
         return format!(in alloc; "only spaces; a line without words has no spaces either");
     };
     let first: &str = *first;
+    if first.starts_with('#') {
+        return format!(in alloc; "the line of a comment begins with its `#`, and not with spaces");
+    }
     if !may_begin(kind, first) {
         return other_beginning(alloc, kind, first);
     }
@@ -57,6 +65,9 @@ fn unknown_name(alloc: Global, set: &ProgramSet, words: &[&str]) -> Result<Strin
     let Some(name) = name_in(words) else {
         return format!(in alloc; "the name is not known");
     };
+    if name.contains('\t') {
+        return format!(in alloc; "{TAB}");
+    }
     let (what, names) = match words {
         ["row", ..] => ("table", table_names(alloc, set.draft())?),
         _ => ("program", program_names(alloc, set.draft())?),
