@@ -123,10 +123,9 @@ module _ (paths : List Path) (q : Question) (asked : IsAskedOf paths q) where
 
   own-by : (v : Verdict) → IsRight paths (numbers_of q) v → All (IsOwnEntry paths) (told_by q v)
   own-by (Apart chain) right =
-      All-cons (IsOwnEntry paths) (entry_with (told_question q) (reason.TheVariants.Apart chain)) [] (λ mine theirs of_question. right mine theirs of_question) (All-nil (IsOwnEntry paths))
+      All-cons (IsOwnEntry paths) (entry_with (told_question q) (reason.TheVariants.Apart chain)) [] right (All-nil (IsOwnEntry paths))
   own-by (Covered m t chains) right =
-      All-cons (IsOwnEntry paths) (entry_with (told_question q) (reason.TheVariants.Cover m t chains)) []
-      (λ mine theirs of_question. let r = right mine theirs of_question in (r.can_meet, r.least, r.shortest)) (All-nil (IsOwnEntry paths))
+      All-cons (IsOwnEntry paths) (entry_with (told_question q) (reason.TheVariants.Cover m t chains)) [] right (All-nil (IsOwnEntry paths))
   own-by (Exposed sample) right = All-nil (IsOwnEntry paths)
 
 -- ---- all entries

@@ -1,5 +1,5 @@
 -- What the told entries leave is what can meet, and what is exposed.
-use Rattle.std.proofs.Common.{◌≡◌, ℕ, ◌<◌, List, length, inl, inr, refl, sym, subst}
+use Rattle.std.proofs.Common.{◌≡◌, ℕ, ◌<◌, List, length, inl, refl, sym, subst}
 use Rattle.std.specs.Prelude.{Contains}
 use Rattle.std.proofs.lemmas.List.Elements.{All-contains}
 use Rattle.prog_check.specs.declared.path.Access.{Access}
@@ -14,11 +14,11 @@ use Rattle.prog_paths.proofs.Membership.{law_of_listing}
 use Rattle.conflict_pairs.specs.declared.verdicts.Verdict.{Verdict}
 use Rattle.conflict_pairs.specs.declared.verdicts.Verdict.TheVariants.{Apart, Covered, Exposed}
 use Rattle.conflict_pairs.specs.Table.{Judged, Table, StandsFor, IsRightEntry}
-use Rattle.conflict_pairs.specs.Verdicts.{mine_of, theirs_of, IsRight, IsRightOf}
+use Rattle.conflict_pairs.specs.Verdicts.{mine_of, theirs_of, IsRight, IsRightOf, IsExposedQuestion}
 use Rattle.robust_cert.specs.declared.entries.Reason as reason
 use Rattle.robust_cert.specs.Accepted.{IsTold, IsToldApart, IsLeft, IsLeftVulnerable}
 use Rattle.robust_cert.specs.Sharing.{Entry, entry_with}
-use Rattle.si_repair.specs.Findings.{IsHarmless, TellsEach}
+use Rattle.si_repair.specs.Findings.{TellsEach}
 use Rattle.si_repair.specs.Certificates.{told_question, told_by, told_of}
 use Rattle.si_repair.proofs.Members.{told_one}
 
@@ -52,13 +52,12 @@ module _ (paths : List Path) (entries : List Entry) (q : QuestionNumbers) (mine 
       absurd (none (e, all_told e (contains_itself e), is))
   exposed asked is (Exposed sample) all_told r asks none = ((mine_of sample, theirs_of sample, r.meets), r.uncovered asks)
 
-  is_told : (asked : Question) → numbers_of asked ≡ q → (v : Verdict) → ((x : Entry) → Contains (told_by asked v) x → Contains entries x) → IsRightOf paths q mine theirs v → IsHarmless paths q mine theirs → IsTold entries q
+  is_told : (asked : Question) → numbers_of asked ≡ q → (v : Verdict) → ((x : Entry) → Contains (told_by asked v) x → Contains entries x) → IsRightOf paths q mine theirs v → (IsExposedQuestion paths q mine theirs → ⊥) → IsTold entries q
   is_told asked is (Apart chain) all_told r h =
       let e = entry_with (told_question asked) (reason.TheVariants.Apart chain) in (e, all_told e (contains_itself e), is)
   is_told asked is (Covered m t chains) all_told r h =
       let e = entry_with (told_question asked) (reason.TheVariants.Cover m t chains) in (e, all_told e (contains_itself e), is)
-  is_told asked is (Exposed sample) all_told r (inl apart) = absurd (apart (mine_of sample, theirs_of sample, r.meets))
-  is_told asked is (Exposed sample) all_told r (inr covered) = absurd (r.uncovered covered.0 covered.1)
+  is_told asked is (Exposed sample) all_told r h = absurd (h ((mine_of sample, theirs_of sample, r.meets), r.uncovered))
 
 -- ---- all questions
 

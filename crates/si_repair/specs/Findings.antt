@@ -1,18 +1,18 @@
 -- What an analysis has to find of a list of paths, and why a set is not analysed.
-use Rattle.std.specs.Prelude.{◌⊎◌, ℕ, ◌<◌, ◌≤◌, List, length, All}
+use Rattle.std.specs.Prelude.{ℕ, ◌<◌, ◌≤◌, List, length, All}
 use Rattle.prog_tree.specs.Syntax.{DraftTree}
 use Rattle.prog_check.specs.declared.path.Access.{Access}
 use Rattle.prog_check.specs.declared.path.Path.{Path}
 use Rattle.prog_check.specs.Paths.{paths_of}
-use Rattle.prog_paths.specs.Meeting.{CanMeet}
-use Rattle.prog_paths.specs.StaticGraph.{AsksOf, AsksReadWrite, IsCovered, StaticEdge, Leads}
+use Rattle.prog_paths.specs.StaticGraph.{AsksOf, StaticEdge, Leads}
 use Rattle.prog_paths.specs.StaticGraph as graph
-use Rattle.prog_paths.specs.Facts.{question_facts}
 use Rattle.prog_paths.specs.Questions.{IsQuestion, questions_of}
 use Rattle.prog_paths.specs.Limits.{most_questions}
 use Rattle.conflict_pairs.specs.declared.fault.PairFault.{PairFault}
 use Rattle.conflict_pairs.specs.declared.fault.PairFault as pairs
-use Rattle.conflict_pairs.specs.Verdicts.{FallsShortest, IsShortest, IsLeastCover}
+use Rattle.conflict_pairs.specs.declared.verdicts.Verdict.{Verdict}
+use Rattle.conflict_pairs.specs.declared.verdicts.Verdict.TheVariants as verdict
+use Rattle.conflict_pairs.specs.Verdicts.{IsRight, IsExposedQuestion}
 use Rattle.dep_graph.specs.Counting.{IsCountOf}
 use Rattle.dep_graph.specs.Danger.{IsLeastDanger}
 use Rattle.robust_cert.specs.declared.certificate.Certificate.{Certificate}
@@ -24,11 +24,6 @@ use Rattle.si_repair.specs.declared.fault.AnalyseFault.{AnalyseFault}
 use Rattle.si_repair.specs.declared.fault.AnalyseFault as faults
 use Rattle.si_repair.specs.declared.finding.Finding.{Finding}
 use Rattle.si_repair.specs.declared.finding.Finding.TheVariants.{Robust, Refused}
-
--- the accesses never meet, or a pair of single cells covers what may be a read-write dependency
-abbrev pub IsHarmless : List Path → graph.QuestionNumbers → Access → Access → Type 0
-IsHarmless nodes q mine theirs =
-    (CanMeet mine theirs → ⊥) ⊎ (AsksReadWrite mine.kind theirs.kind × IsCovered nodes q.x q.y mine theirs)
 
 -- a set asks no more questions than an analysis answers
 abbrev pub AsksFew : DraftTree → Type 0
@@ -43,25 +38,20 @@ abbrev pub fault_of : PairFault → AnalyseFault
 fault_of pairs.TheVariants.TooLarge = faults.TheVariants.TooLarge
 fault_of pairs.TheVariants.Memory = faults.TheVariants.Memory
 
--- a reason says apart of a question that can't meet, and else names the least cover; its chains have the fewest nodes
-abbrev pub IsOwnReason : List Path → graph.QuestionNumbers → Reason → Type 0
-IsOwnReason nodes q (Apart chain) =
-    (mine theirs : Access) → AsksOf nodes q mine theirs
-    → ¬ CanMeet mine theirs × FallsShortest (question_facts mine theirs) chain
-IsOwnReason nodes q (Cover m t chains) =
-    (mine theirs : Access) → AsksOf nodes q mine theirs
-    → CanMeet mine theirs × IsLeastCover nodes q mine theirs m t
-    × All (IsShortest (question_facts mine theirs)) chains
+-- the verdict that a reason tells
+abbrev pub verdict_told : Reason → Verdict
+verdict_told (Apart chain) = verdict.Apart chain
+verdict_told (Cover m t chains) = verdict.Covered m t chains
 
--- an entry has such a reason
+-- an entry tells the right verdict on its question: that it can't meet, or the least cover; with chains of the fewest nodes
 abbrev pub IsOwnEntry : List Path → Entry → Type 0
-IsOwnEntry nodes e = IsOwnReason nodes (question_of e) e.reason
+IsOwnEntry nodes e = IsRight nodes (question_of e) (verdict_told e.reason)
 
--- each question that is harmless has an entry
+-- each question that is not exposed has an entry
 abbrev pub TellsEach : List Path → List Entry → Type 0
 TellsEach nodes entries =
     (q : graph.QuestionNumbers) → IsQuestion nodes q → (mine theirs : Access) → AsksOf nodes q mine theirs
-    → IsHarmless nodes q mine theirs → IsTold entries q
+    → ¬ IsExposedQuestion nodes q mine theirs → IsTold entries q
 
 -- for each node the number of nodes that lead to it, itself counted
 abbrev pub AreCounted : List Path → (levels : List ℕ) → Type 0
@@ -69,7 +59,7 @@ AreCounted nodes levels =
     (x : ℕ) → x < length nodes
     → IsCountOf (λ u. Leads (StaticEdge nodes) u x) (length nodes) (level_in levels x)
 
--- the certificate of a list of paths: an entry for each harmless question, and the levels of the nodes
+-- the certificate of a list of paths: an entry for each question that is not exposed, and the levels of the nodes
 pub record IsCertificateOf (nodes : List Path) (c : Certificate) : Type 0 where
   pub own : All (IsOwnEntry nodes) c.entries
   pub each : TellsEach nodes c.entries
