@@ -7,13 +7,22 @@ use prog_text::is_reserved;
 use std::alloc::{AllocError, Global};
 use text_places::{as_text, before, behind, first_token, last_token, second_token};
 
-/// What stands around a token that cannot stand where it does.
+/// What stands around a token that cannot stand where it does, and what could stand there.
 #[derive(Clone, Copy)]
 pub struct Around<'a> {
     /// The token before, or the last byte of a sign; empty at the front of a text.
     pub before: &'a str,
     pub token: &'a str,
     pub next: &'a str,
+    /// The signs and words that could stand in its place.
+    pub could: &'a [&'a str],
+}
+
+impl Around<'_> {
+    // Whether this could stand there.
+    fn admits(self, word: &str) -> bool {
+        self.could.contains(&word)
+    }
 }
 
 /// A slip, by what was written.
@@ -105,12 +114,18 @@ const NO_COMPARISON: &str = "a test compares two values, as `x != 0` does";
 const LATE_TABLE: &str = "tables stand before all programs";
 
 /// What stands around a place of a text without comments, at whose end a token ends.
-pub fn tokens_around(plain: &[u8], end: usize, place: usize) -> Around<'_> {
+pub fn tokens_around<'a>(
+    plain: &'a [u8],
+    end: usize,
+    place: usize,
+    could: &'a [&'a str],
+) -> Around<'a> {
     let rest = behind(plain, place);
     Around {
         before: as_text(last_token(before(plain, end))),
         token: as_text(first_token(rest)),
         next: as_text(second_token(rest)),
+        could,
     }
 }
 
@@ -127,12 +142,12 @@ fn begins_term(token: &str) -> bool {
     is_name(token) || ["(", "least", "greatest"].contains(&token)
 }
 
-fn case_slip(around: Around<'_>, could: &[&str]) -> Option<Slip> {
+fn case_slip(around: Around<'_>) -> Option<Slip> {
     match in_lower_case(around.token) {
-        Some(word) if could.contains(&word) => return Some(Slip::OtherCase),
+        Some(word) if around.admits(word) => return Some(Slip::OtherCase),
         _ => {}
     }
-    if could.contains(&"+") && in_lower_case(around.before).is_some() {
+    if around.admits("+") && in_lower_case(around.before).is_some() {
         return Some(Slip::OtherCaseBefore);
     }
     None
@@ -164,13 +179,13 @@ fn statement_slip(around: Around<'_>) -> Option<Slip> {
 }
 
 // The slip in the head of an `each`, behind the name of a table, or where a name alone could stand.
-fn head_slip(around: Around<'_>, could: &[&str]) -> Option<Slip> {
-    match could {
+fn head_slip(around: Around<'_>) -> Option<Slip> {
+    match around.could {
         [","] => return Some(Slip::Said(EACH_NAMES)),
         ["["] => return Some(Slip::Said(NO_KEY)),
         _ => {}
     }
-    if !could.contains(&NAME) || could.contains(&NUMBER) {
+    if !around.admits(NAME) || around.admits(NUMBER) {
         return None;
     }
     match around.token {
@@ -190,61 +205,61 @@ fn beginning_slip(around: Around<'_>) -> Option<Slip> {
 }
 
 // The slip behind a value of a key or a range.
-fn key_slip(token: &str, could: &[&str]) -> Option<Slip> {
-    match token {
-        "]" if could.contains(&"..") => Some(Slip::Said(ONE_END)),
-        ".." if could.contains(&"]") => Some(Slip::Said(RANGE_FOR_CELL)),
-        "," if could.contains(&"]") => Some(Slip::Said(THIRD_COLUMN)),
+fn key_slip(around: Around<'_>) -> Option<Slip> {
+    match around.token {
+        "]" if around.admits("..") => Some(Slip::Said(ONE_END)),
+        ".." if around.admits("]") => Some(Slip::Said(RANGE_FOR_CELL)),
+        "," if around.admits("]") => Some(Slip::Said(THIRD_COLUMN)),
         _ => None,
     }
 }
 
 // The slip behind a value, or behind a name that is taken for one.
-fn behind_slip(around: Around<'_>, could: &[&str]) -> Option<Slip> {
+fn behind_slip(around: Around<'_>) -> Option<Slip> {
     match around.token {
         "[" if is_name(around.before) => Some(Slip::NoLook),
-        "{" if could.contains(&"<") => Some(Slip::Said(NO_COMPARISON)),
+        "{" if around.admits("<") => Some(Slip::Said(NO_COMPARISON)),
         token if is_name(token) && OTHER_TOTALS.contains(&around.before) => {
             Some(Slip::Said(OTHER_TOTAL))
         }
-        token => key_slip(token, could),
+        _ => key_slip(around),
     }
 }
 
 // The slip of a look, a key or a range, or of a table.
-fn look_slip(around: Around<'_>, could: &[&str]) -> Option<Slip> {
+fn look_slip(around: Around<'_>) -> Option<Slip> {
     match around.token {
-        "table" if could.contains(&"program") => return Some(Slip::Said(LATE_TABLE)),
-        "else" if could.contains(&";") => return Some(Slip::Said(ELSE_OF_NO_GET)),
+        "table" if around.admits("program") => return Some(Slip::Said(LATE_TABLE)),
+        "else" if around.admits(";") => return Some(Slip::Said(ELSE_OF_NO_GET)),
         _ => {}
     }
-    if could.contains(&NUMBER) {
+    if around.admits(NUMBER) {
         return beginning_slip(around);
     }
-    if could.contains(&"+") {
-        return behind_slip(around, could);
+    if around.admits("+") {
+        return behind_slip(around);
     }
     None
 }
 
 // Whether a test stands in brackets, as no test may.
-fn is_bracketed(around: Around<'_>, could: &[&str]) -> bool {
+fn is_bracketed(around: Around<'_>) -> bool {
     if around.before == "(" && around.token == "not" {
         return true;
     }
-    let is_inside = could.contains(&")") && could.contains(&"+");
+    let is_inside = around.admits(")") && around.admits("+");
     is_inside && COMPARISONS.contains(&around.token)
 }
 
 // The slip in an expression, a test or a value.
-fn value_slip(around: Around<'_>, could: &[&str]) -> Option<Slip> {
-    if is_bracketed(around, could) {
+fn value_slip(around: Around<'_>) -> Option<Slip> {
+    if is_bracketed(around) {
         return Some(Slip::Said(BRACKETED_TEST));
     }
     match around.token {
-        "==" if could.contains(&"=") => Some(Slip::Said(TWO_EQUALS)),
-        "=" if could.contains(&"==") => Some(Slip::Said(ONE_EQUALS)),
-        term if around.before == "-" && begins_term(term) && !could.contains(&NAME) => {
+        "==" if around.admits("=") => Some(Slip::Said(TWO_EQUALS)),
+        "=" if around.admits("==") => Some(Slip::Said(ONE_EQUALS)),
+        term if around.before == "-" && begins_term(term) && !around.admits(NAME) => {
             Some(Slip::MinusOfName)
         }
         _ => None,
@@ -252,22 +267,22 @@ fn value_slip(around: Around<'_>, could: &[&str]) -> Option<Slip> {
 }
 
 /// The slip that is seen from the tokens around a place, and from what could stand there.
-pub fn slip_of(around: Around<'_>, could: &[&str]) -> Option<Slip> {
-    if let Some(slip) = case_slip(around, could) {
+pub fn slip_of(around: Around<'_>) -> Option<Slip> {
+    if let Some(slip) = case_slip(around) {
         return Some(slip);
     }
     if around.token == "-" && around.next == "-" {
         return Some(Slip::Said(DASHES));
     }
-    if could.contains(&"let") {
+    if around.admits("let") {
         return statement_slip(around);
     }
-    if could.contains(&"{") && around.before == "else" && around.token == "if" {
+    if around.admits("{") && around.before == "else" && around.token == "if" {
         return Some(Slip::Said(ELSE_IF));
     }
-    value_slip(around, could)
-        .or(head_slip(around, could))
-        .or(look_slip(around, could))
+    value_slip(around)
+        .or(head_slip(around))
+        .or(look_slip(around))
 }
 
 /// That a name was meant as the word that it is but for its letters' case, and where it stands.

@@ -131,15 +131,14 @@ fn unexpected_words(
     text: &[u8],
     plain: &[u8],
     place: usize,
-    could: &[&str],
     around: Around<'_>,
 ) -> Result<String, AllocError>
     requires { plain.now ≡ without_comments text.now }
 {
-    match slip_of(around, could) {
+    match slip_of(around) {
         Some(Slip::OpenBlock) => open_block_words(alloc, text, plain, place, around),
         Some(slip) => slip_words(alloc, slip, around),
-        None => misplaced(alloc, around.token, could),
+        None => misplaced(alloc, around.token, around.could),
     }
 }
 
@@ -188,13 +187,13 @@ fn unexpected(alloc: Global, text: &[u8], place: usize) -> Result<String, AllocE
 {
     let plain = without_comments(alloc, text)?;
     let end = last_end(&plain, place);
-    let around = tokens_around(&plain, end, place);
     let could = possible(alloc, before(text, place))?;
     let is_first = line_number(text, end) != line_number(text, place);
     if lacks_semicolon(&plain, end, place, &could, is_first) {
         return point_out(alloc, text, end, "a `;` is missing here");
     }
-    let sentence = unexpected_words(alloc, text, &plain, place, &could, around)?;
+    let around = tokens_around(&plain, end, place, &could);
+    let sentence = unexpected_words(alloc, text, &plain, place, around)?;
     point_at(alloc, text, place, &sentence)
 }
 

@@ -12,7 +12,7 @@ returns-then-lacks_semicolon c =
     let blanked : List ℕ = without_comments c.args.text.now in
     let end : c.last_end-end.result ≡ end_before c.args.text.now c.args.place =
     c.last_end-end.ensures ∙ ap (λ (plain : List ℕ). last_end plain c.args.place) (c.deref.ensures.value ∙ c.in_ok-plain.ensures) in
-    let plain : c.deref-3.result.now ≡ blanked = c.deref-3.ensures.value ∙ c.in_ok-plain.ensures in
+    let plain : c.deref-2.result.now ≡ blanked = c.deref-2.ensures.value ∙ c.in_ok-plain.ensures in
     let may : may_lack_semicolon blanked (end_before c.args.text.now c.args.place) c.args.place ≡ true =
     ap (λ (at : ℕ). may_lack_semicolon blanked at c.args.place) (sym end)
     ∙ (ap (λ (bytes : List ℕ). may_lack_semicolon bytes c.last_end-end.result c.args.place) (sym plain)
