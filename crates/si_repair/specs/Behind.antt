@@ -1,6 +1,6 @@
 -- What keeps behind the marked statements make of a program.
 use Rattle.std.specs.Prelude.{ℕ, ◌+◌, ◌≤◌, Bool, Option, None}
-use Rattle.prog_tree.specs.Syntax.{Name, KeyTree, StmtTree, Plain, Fork, Loop, ProgramTree}
+use Rattle.prog_tree.specs.Syntax.{Name, KeyTree, StmtTree, Plain, Fork, Loop}
 use Rattle.prog_tree.specs.Tree.{block_tree}
 use Rattle.prog_tree.specs.declared.program.Program.{Program}
 use Rattle.prog_check.specs.Limits.{most_statements}
@@ -28,7 +28,3 @@ with_keeps_in marked number (Loop l body) = Loop l body
 
 abbrev pub HasFewStatements : Program → Type 0
 HasFewStatements p = statement_count (block_tree p.body) ≤ most_statements
-
--- a program with keeps behind its marked statements
-abbrev pub promoted_program : (marked : ℕ → Bool) → ProgramTree → ProgramTree
-promoted_program marked p = record { name = p.name; params = p.params; body = with_keeps marked 0 p.body }

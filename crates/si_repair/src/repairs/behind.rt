@@ -7,8 +7,8 @@ ghost use Rattle.prog_check.specs.Paths.{statement_count};
 ghost use Rattle.prog_check.specs.Sound.{IsSound};
 ghost use Rattle.prog_paths.specs.Kinds.{option_items};
 ghost use Rattle.repair_laws.specs.Promoted.{keep_of, with_keeps, all_with_keeps, promoted_by};
+ghost use Rattle.repair_laws.specs.Promoted.{promoted_program};
 ghost use Rattle.si_repair.specs.Behind.{cell_read_by, count_by, with_keeps_in, HasFewStatements};
-ghost use Rattle.si_repair.specs.Behind.{promoted_program};
 ghost use Rattle.si_repair.specs.Marks.{is_marked};
 
 use crate::repairs::marks::{MarkedStatement, is_marked};
