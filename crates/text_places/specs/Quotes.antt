@@ -1,12 +1,12 @@
 -- How people see a place of a text: its line and a mark under it.
-use Rattle.std.specs.Prelude.{ℕ, ◌-◌, ◌==◌, nat_lt, ◌&&◌, List, ◌++◌, codes, drop, map, replicate, take, if◌then◌else◌}
+use Rattle.std.specs.Prelude.{ℕ, ◌-◌, ◌==◌, nat_lt, ◌&&◌, ◌||◌, List, ◌++◌, codes, drop, map, replicate, take, if◌then◌else◌}
 use Rattle.std.specs.Fmt.{decimal}
 use Rattle.text_places.specs.Limits.{most_before, most_line}
 use Rattle.text_places.specs.Places.{column, inset, line_at, line_number}
 
--- printable ASCII stands for itself, a tab for a space, and any other byte for a question mark
+-- printable ASCII stands for itself, a tab and a carriage return for a space, and any other byte for a question mark
 abbrev pub visible : ℕ → ℕ
-visible byte = if nat_lt 31 byte && nat_lt byte 127 then byte else if byte == 9 then 32 else 63
+visible byte = if nat_lt 31 byte && nat_lt byte 127 then byte else if byte == 9 || byte == 13 then 32 else 63
 
 -- of a long line so many bytes before the place are shown, and so many in all
 abbrev pub left_out : (text : List ℕ) → (place : ℕ) → ℕ

@@ -13,7 +13,7 @@ fn visible(byte: u8) -> u8
 {
     if 31 < byte && byte < 127 {
         byte
-    } else if byte == b'\t' {
+    } else if byte == b'\t' || byte == b'\r' {
         b' '
     } else {
         b'?'
