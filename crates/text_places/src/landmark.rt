@@ -15,11 +15,13 @@ use prog_text::{Beginning, beginning_of};
 pub fn begun_at(text: &[u8], place: usize) -> Option<Beginning>
     ensures { result ≡ begun_at text.now place }
 {
-    // Most places stand within a word, as the byte before them tells.
-    if stands_free(text, place) {
-        beginning_of(short_word(behind(text, place)))
-    } else {
-        None
+    // Most places stand within a word, as the byte before them tells, and most others have none.
+    if !stands_free(text, place) {
+        return None;
+    }
+    match short_word(behind(text, place)) {
+        [] => None,
+        word => beginning_of(word),
     }
 }
 
