@@ -2,6 +2,7 @@
 //! serial orders of them.
 #![tactic(auto)]
 
+mod dependency;
 mod horizons;
 mod kept_region;
 mod late;

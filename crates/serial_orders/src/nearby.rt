@@ -9,9 +9,9 @@ ghost use Rattle.serial_orders.specs.Nearby.{IsTestedBelow, HoldsBack, AreHolder
 ghost use Rattle.serial_orders.specs.Orders.{least_order, IsUpTo};
 ghost use Rattle.serial_orders.specs.Traces.{SeesEarlier, trace_depends};
 
+use crate::dependency::depends;
 use crate::horizons::{horizons, steps};
 use crate::late::next_late;
-use crate::reason::depends;
 use crate::trace::{Sight, Trace};
 use std::alloc::{AllocError, Global};
 

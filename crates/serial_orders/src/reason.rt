@@ -1,10 +1,10 @@
-//! Whether one commit has to stand before another, and why.
+//! Why one commit has to stand before another.
 
 ghost use Rattle.std.specs.Prelude.{◌≡◌, if◌then◌else◌, Some, None, length};
 ghost use Rattle.serial_orders.specs.Orders.{IsUpTo};
 ghost use Rattle.serial_orders.specs.Reasons.{by_change, by_look, changed_before, change_reason};
 ghost use Rattle.serial_orders.specs.Reasons.{missed_at, missed_by, told_reason};
-ghost use Rattle.serial_orders.specs.Traces.{trace_at, trace_depends};
+ghost use Rattle.serial_orders.specs.Traces.{trace_at};
 
 use crate::trace::{Sight, Trace, trace_at};
 use prog_tree::{Cell, Region};
@@ -104,7 +104,7 @@ fn first_look_reason(traces: &[Trace], first: usize, second: usize) -> Option<Or
     None
 }
 
-/// Why one commit has to stand before another.
+/// Why one commit has to stand before another; none where it has not.
 pub fn reason_between(traces: &[Trace], first: usize, second: usize) -> Option<OrderReason>
     requires first { IsUpTo (length traces.now) first }
     requires second { IsUpTo (length traces.now) second }
@@ -118,13 +118,4 @@ pub fn reason_between(traces: &[Trace], first: usize, second: usize) -> Option<O
         return changed;
     }
     first_look_reason(traces, first, second)
-}
-
-/// Whether one commit has to stand before another.
-pub fn depends(traces: &[Trace], first: usize, second: usize) -> bool
-    requires first { IsUpTo (length traces.now) first }
-    requires second { IsUpTo (length traces.now) second }
-    ensures { result ≡ trace_depends traces.now first second }
-{
-    reason_between(traces, first, second).is_some()
 }
