@@ -19,6 +19,7 @@ use crate::sentences::kept::Kept;
 use crate::sentences::words::explain;
 use crate::status::Status;
 use si_engine::{MAX_READS, Sink, Source, read_whole};
+use std::mem;
 use std::thread::Threads;
 
 // Does with the second part of an input what the mode asks for.
@@ -62,8 +63,8 @@ fn answer_input<K: Sink>(
         (K.has_failed sink.new) (K.taken sink.old) (K.taken sink.new) result }
 {
     match mode {
-        Mode::Check => check_input(rt.alloc(), input, sink),
-        Mode::Certify => certify_input(rt, input, sink, &mut kept.found),
+        Mode::Check => check_input(rt.alloc(), input, sink, kept),
+        Mode::Certify => certify_input(rt, input, sink, kept),
         Mode::Repair { promote } => repair_input(rt.alloc(), promote, input, sink, kept),
         Mode::Verify | Mode::Run { .. } | Mode::Audit => { part_input(rt, mode, input, sink, kept) }
         Mode::Work { .. } => unreachable!(),
@@ -115,5 +116,7 @@ pub fn run_command<S: Source, K: Sink>(
     }
     let status = write_end(alloc, sink, ended);
     explain(rt, mode, &kept, ended);
+    // The process ends behind the words: the system takes what was kept back as a whole.
+    mem::forget(kept);
     status
 }

@@ -16,6 +16,7 @@ use crate::command_fault::CommandFault;
 use crate::commands::refusal::refusal_text;
 use crate::input::read_text;
 use crate::lines::{write_lines, write_pieces};
+use crate::sentences::kept::Kept;
 use crate::status::Status;
 use dep_graph::Danger;
 use prog_check::ProgramSet;
@@ -89,12 +90,13 @@ fn input_finding(
     Ok((set, finding))
 }
 
-/// Writes the certificate or the refusal of the set that an input spells. What was found is kept.
+/// Writes the certificate or the refusal of the set that an input spells. The set is kept, and what
+/// was found.
 pub fn certify_input<K: Sink>(
     rt: &(impl AllocGlobal + Threads + Sync),
     input: &[u8],
     sink: &mut K,
-    found: &mut Option<Finding>,
+    kept: &mut Kept,
 ) -> Result<Status, CommandFault>
     requires short { length input.now ≤ input_limit }
     requires working { K.has_failed sink.old ≡ false }
@@ -102,16 +104,11 @@ pub fn certify_input<K: Sink>(
         (K.has_failed sink.new) (K.taken sink.old) (K.taken sink.new) result }
 {
     let (set, finding) = input_finding(rt, input)?;
-    match finding {
-        Finding::Robust(certificate) => {
-            let ended = write_certificate(rt, &certificate, sink);
-            *found = Some(Finding::Robust(certificate));
-            ended
-        }
-        Finding::Refused(danger) => {
-            let ended = write_refusal(rt.alloc(), &set, &danger, sink);
-            *found = Some(Finding::Refused(danger));
-            ended
-        }
-    }
+    let ended = match &finding {
+        Finding::Robust(certificate) => write_certificate(rt, certificate, sink),
+        Finding::Refused(danger) => write_refusal(rt.alloc(), &set, danger, sink),
+    };
+    kept.set = Some(set);
+    kept.found = Some(finding);
+    ended
 }

@@ -40,12 +40,12 @@ fn repair_set(
     Ok(PlannedRepair { plan, repaired })
 }
 
-// The canonical text of the set that an input spells, repaired. The repair is kept.
+// The canonical text of the set that an input spells, repaired. The set is kept, and the repair.
 fn repaired_text(
     alloc: Global,
     promoting: bool,
     input: &[u8],
-    kept: &mut Option<PlannedRepair>,
+    kept: &mut Kept,
 ) -> Result<Vec<u8>, CommandFault>
     requires { length input.now ≤ input_limit }
     ensures ok { IfOk result
@@ -55,12 +55,13 @@ fn repaired_text(
     let set = read_text(alloc, input)?;
     let repair = repair_set(alloc, promoting, &set)?;
     let text = print(alloc, repair.repaired.draft())?;
-    *kept = Some(repair);
+    kept.set = Some(set);
+    kept.repair = Some(repair);
     Ok(text)
 }
 
 /// Writes the canonical text of the set that an input spells, repaired: by the rows that its
-/// programs read, or by tables of their own. The repair is kept.
+/// programs read, or by tables of their own. The set is kept, and the repair.
 pub fn repair_input<K: Sink>(
     alloc: Global,
     promoting: bool,
@@ -73,6 +74,6 @@ pub fn repair_input<K: Sink>(
     ensures { WritesWithEnd (IsInputDone (mode.Repair promoting) input.now)
         (K.has_failed sink.new) (K.taken sink.old) (K.taken sink.new) result }
 {
-    let text = repaired_text(alloc, promoting, input, &mut kept.repair)?;
+    let text = repaired_text(alloc, promoting, input, kept)?;
     write_lines(sink, &text, Ok(Status::Done))
 }

@@ -11,6 +11,7 @@ ghost use Rattle.sirob.specs.Stops.{IsUnanalysedBy, IsVerified};
 
 use crate::command_fault::CommandFault;
 use crate::commands::refusal::refusal_text;
+use crate::sentences::kept::Kept;
 use prog_check::ProgramSet;
 use robust_cert::{Certificate, RobustSet, verify};
 use si_repair::{Finding, certify_par};
@@ -45,11 +46,11 @@ pub fn accept(
 }
 
 /// The set as a robust one, where an analysis finds a certificate and the checker accepts it; else
-/// its refusal. That is kept.
+/// its refusal. Then the set is kept, and what refuses it.
 pub fn assess(
     rt: &(impl AllocGlobal + Threads + Sync),
     set: ProgramSet,
-    found: &mut Option<Finding>,
+    kept: &mut Kept,
 ) -> Result<Verified, CommandFault>
     ensures ok { IfOk result (λ verified. IsVerified set verified) }
     ensures err { IfErr result (λ fault. is_memory fault ≡ false
@@ -63,7 +64,8 @@ pub fn assess(
         }
         Finding::Refused(danger) => {
             let text = refusal_text(alloc, &set, &danger)?;
-            *found = Some(Finding::Refused(danger));
+            kept.set = Some(set);
+            kept.found = Some(Finding::Refused(danger));
             Ok(Verified::Refused(text))
         }
     }

@@ -77,7 +77,7 @@ pub fn run_robust_part<K: Sink>(
     ensures { WritesWithEnd (IsPartDone (mode.Run true) (draft_tree set) part.now)
         (K.has_failed sink.new) (K.taken sink.old) (K.taken sink.new) result }
 {
-    match assess(rt, set, &mut kept.found)? {
+    match assess(rt, set, kept)? {
         Verified::Robust(set) => run_verified(rt.alloc(), &set, part, sink, kept),
         Verified::Refused(text) => {
             write_lines(sink, text.as_bytes(), Ok(Status::Unserializable))

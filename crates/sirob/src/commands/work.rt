@@ -126,7 +126,7 @@ pub fn work_part<R: AllocGlobal + Eprint + Clock + Watched + Threads + Wait + Sy
     ensures { WritesWithEnd (IsPartDone (mode.Work workers) (draft_tree set) part.now)
         (K.has_failed sink.new) (K.taken sink.old) (K.taken sink.new) result }
 {
-    match assess(rt, set, &mut kept.found)? {
+    match assess(rt, set, kept)? {
         Verified::Robust(set) => {
             let WorkAnswer {
                 text,

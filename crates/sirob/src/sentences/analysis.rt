@@ -1,16 +1,13 @@
 //! What an analysis and the checker of certificates find, as it is said to people.
 
 use crate::limits::MAX_PLANNED_NODES;
-use crate::sentences::kept_input::KeptInput;
-use analysis_words::{refusal_words, robust_words};
+use analysis_words::refusal_words;
 use dep_graph::Danger;
 use prog_check::ProgramSet;
 use prog_paths::{MAX_QUESTIONS, paths};
 use prog_tree::Sequence;
-use robust_cert::Certificate;
 use si_repair::{AnalyseFault, Plan, plan};
 use std::alloc::{AllocError, Global};
-use std::thread::Threads;
 
 /// Why a set is not analysed.
 pub fn analysis_sentence(alloc: Global, fault: AnalyseFault) -> Result<Option<String>, AllocError> {
@@ -42,29 +39,13 @@ fn known_plan(alloc: Global, set: &ProgramSet) -> Plan {
     }
 }
 
-/// Why the set of an input is refused, by what an analysis found.
+/// Why a set, whose text was read, is refused, by what an analysis found.
 pub fn refusal_sentence(
     alloc: Global,
-    input: KeptInput<'_>,
+    text: &[u8],
+    set: &ProgramSet,
     danger: &Danger,
 ) -> Result<Option<String>, AllocError> {
-    let Some(set) = input.set(alloc) else {
-        return Ok(None);
-    };
-    let plan = known_plan(alloc, &set);
-    refusal_words(alloc, input.text, &set, danger, &plan)
-}
-
-/// What the certificate of the set of an input shows.
-pub fn robust_sentence(
-    rt: &(impl Threads + Sync),
-    alloc: Global,
-    input: KeptInput<'_>,
-    certificate: &Certificate,
-) -> Result<Option<String>, AllocError> {
-    let Some(set) = input.set(alloc) else {
-        return Ok(None);
-    };
-    let words = robust_words(rt, alloc, input.text, &set, certificate)?;
-    Ok(Some(words))
+    let plan = known_plan(alloc, set);
+    refusal_words(alloc, text, set, danger, &plan)
 }

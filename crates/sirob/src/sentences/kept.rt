@@ -18,6 +18,8 @@ pub struct PlannedRepair {
 #[derive(Drop)]
 pub struct Kept {
     pub input: Vec<u8>,
+    /// The set, where the command was through with it.
+    pub set: Option<ProgramSet>,
     /// What an analysis found of the set, where one was made.
     pub found: Option<Finding>,
     /// The repair of the set, where one was made.
@@ -37,6 +39,7 @@ impl Kept {
     pub fn new(alloc: Global) -> Self {
         Kept {
             input: Vec::new(alloc),
+            set: None,
             found: None,
             repair: None,
             cycle: None,

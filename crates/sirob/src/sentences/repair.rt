@@ -11,13 +11,10 @@ pub fn repair_sentence(
     kept: &Kept,
     promoting: bool,
 ) -> Result<Option<String>, AllocError> {
-    let Some(repair) = &kept.repair else {
+    let (Some(set), Some(repair)) = (&kept.set, &kept.repair) else {
         return Ok(None);
     };
-    let input = KeptInput::of(&kept.input);
-    let Some(set) = input.set(alloc) else {
-        return Ok(None);
-    };
+    let text = KeptInput::of(&kept.input).text;
     let pairs = repair.plan.pairs.as_slice();
-    repair_words(alloc, input.text, &set, &repair.repaired, pairs, promoting)
+    repair_words(alloc, text, set, &repair.repaired, pairs, promoting)
 }

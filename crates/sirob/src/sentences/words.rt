@@ -3,14 +3,14 @@
 use crate::command_fault::CommandFault;
 use crate::command_line::Mode;
 use crate::parts::SplitFault;
-use crate::sentences::analysis::{analysis_sentence, refusal_sentence, robust_sentence};
+use crate::sentences::analysis::{analysis_sentence, refusal_sentence};
 use crate::sentences::kept::Kept;
 use crate::sentences::kept_input::KeptInput;
 use crate::sentences::repair::repair_sentence;
 use crate::sentences::runs::refused_sentence;
 use crate::sentences::work::{lost_sentence, work_sentence};
 use crate::status::Status;
-use analysis_words::{certificate_words, json_words, repair_fault_words};
+use analysis_words::{certificate_words, json_words, repair_fault_words, robust_words};
 use fault_words::{check_words, text_words};
 use prog_check::ProgramSet;
 use run_words::{PartKind, extra_part_words, line_fault_words, missing_part_words, record_words};
@@ -132,9 +132,9 @@ fn words_of(
 
 // Why no serial order is sure; of a run that ended in a cycle, which lines do nothing.
 fn unserializable_words(alloc: Global, kept: &Kept) -> Result<Option<String>, AllocError> {
-    match &kept.found {
-        Some(Finding::Refused(danger)) => {
-            refusal_sentence(alloc, KeptInput::of(&kept.input), danger)
+    match (&kept.set, &kept.found) {
+        (Some(set), Some(Finding::Refused(danger))) => {
+            refusal_sentence(alloc, KeptInput::of(&kept.input).text, set, danger)
         }
         _ => refused_sentence(alloc, kept),
     }
@@ -145,9 +145,11 @@ fn found_sentence(
     rt: &(impl AllocGlobal + Threads + Sync),
     kept: &Kept,
 ) -> Result<Option<String>, AllocError> {
-    match &kept.found {
-        Some(Finding::Robust(certificate)) => {
-            robust_sentence(rt, rt.alloc(), KeptInput::of(&kept.input), certificate)
+    match (&kept.set, &kept.found) {
+        (Some(set), Some(Finding::Robust(certificate))) => {
+            let text = KeptInput::of(&kept.input).text;
+            let words = robust_words(rt, rt.alloc(), text, set, certificate)?;
+            Ok(Some(words))
         }
         _ => Ok(None),
     }
