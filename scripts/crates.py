@@ -1,7 +1,13 @@
-"""The crates of the repository, as crates.txt has them, the toolchain, and how many checks run side by side."""
+"""The crates of the repository, as crates.txt has them, the toolchain, and how many checks run side by side.
+
+    scripts/crates.py   prints how many proofs run side by side on this machine
+"""
 import os
 import shutil
 import sys
+
+# what one proof may take
+PROOF_MEMORY = 5_000_000_000
 
 
 def kit():
@@ -45,3 +51,7 @@ def lanes(memory):
     asked = os.environ.get("RT_JOBS", "")
     fit = min(len(os.sched_getaffinity(0)), free_memory() // memory)
     return int(asked) if asked.isdigit() and int(asked) else max(1, fit)
+
+
+if __name__ == "__main__":
+    print(lanes(PROOF_MEMORY))
