@@ -35,14 +35,14 @@ pub fn are_alike(one: &Access, other: &Access) -> bool
         && is_same_second(one.second, other.second)
 }
 
-/// Whether two accesses are alike, or neither may cover.
+// Whether two accesses are alike, or neither may cover.
 fn cover_alike(one: &Access, other: &Access) -> bool
     ensures { IsTrue result → CoverAlike one.now other.now }
 {
     are_alike(one, other) || (!may_cover(one) && !may_cover(other))
 }
 
-/// Whether what may cover in two lists is alike, number by number.
+// Whether what may cover in two lists is alike, number by number.
 fn have_same_covers(xs: &[Access], ys: &[Access]) -> bool
     ensures { IsTrue result → HaveSameCovers xs.now ys.now }
 {
@@ -57,7 +57,7 @@ fn have_same_covers(xs: &[Access], ys: &[Access]) -> bool
     true
 }
 
-/// The first node with the covers of a node.
+// The first node with the covers of a node.
 fn cover_class_of(paths: &[Path], x: usize) -> usize
     requires { x < length paths.now }
     ensures { HaveSameCovers (accesses_at paths.now x) (accesses_at paths.now result) }

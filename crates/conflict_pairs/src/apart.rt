@@ -14,7 +14,7 @@ use prog_check::{Access, Column};
 use prog_paths::{column_or_zero, mine_node, their_node};
 use std::alloc::AllocError;
 
-/// Whether both are numbers, the second smaller.
+// Whether both are numbers, the second smaller.
 fn is_fall(from: Node, to: Node) -> bool
     ensures { IsTrue result ↔ IsFall from to }
 {
@@ -35,7 +35,7 @@ fn fall(from: Node, to: Node) -> Option<Chain>
     }
 }
 
-/// The chain of the first fact of a column that is of two numbers that fall.
+// The chain of the first fact of a column that is of two numbers that fall.
 fn column_fall(mine: Column, theirs: Column) -> Option<Chain>
     ensures some { IfSome result (λ chain. FallsAtOnce (column_facts mine theirs) chain) }
     ensures none { IfNone result (All (λ f. ¬ IsFall f.lo f.hi) (column_facts mine theirs)) }
@@ -46,7 +46,7 @@ fn column_fall(mine: Column, theirs: Column) -> Option<Chain>
     }
 }
 
-/// The chain of the first fact of two second columns that is of two numbers that fall.
+// The chain of the first fact of two second columns that is of two numbers that fall.
 fn second_fall(mine: Option<Column>, theirs: Option<Column>) -> Option<Chain>
     ensures some { IfSome result (λ chain. FallsAtOnce (second_facts mine theirs) chain) }
     ensures none { IfNone result (All (λ f. ¬ IsFall f.lo f.hi) (second_facts mine theirs)) }
@@ -71,7 +71,7 @@ pub fn number_fall(mine: &Access, theirs: &Access) -> Option<Chain>
     }
 }
 
-/// A shortest chain from a node to one, where they are numbers that fall.
+// A shortest chain from a node to one, where they are numbers that fall.
 fn falling_chain(closed: &Closed, from: Node, to: Node) -> Result<Option<Chain>, AllocError>
     ensures some { IfOk result (λ found. IfSome found (λ chain. Falls closed.now chain)) }
     ensures all { IfOk result (λ found.
@@ -86,7 +86,7 @@ fn falling_chain(closed: &Closed, from: Node, to: Node) -> Result<Option<Chain>,
     }
 }
 
-/// The shorter of two chains, the first where they are as long.
+// The shorter of two chains, the first where they are as long.
 fn shorter(one: Option<Chain>, other: Option<Chain>) -> Option<Chain>
     ensures either { (result ≡ one) ⊎ (result ≡ other) }
     ensures one { (count : ℕ) → FoundWithin one count → FoundWithin result count }
@@ -105,7 +105,7 @@ fn shorter(one: Option<Chain>, other: Option<Chain>) -> Option<Chain>
     }
 }
 
-/// A shortest chain from a node to one of some nodes, where they are numbers that fall.
+// A shortest chain from a node to one of some nodes, where they are numbers that fall.
 fn falling_from(closed: &Closed, from: Node, ends: &[Node]) -> Result<Option<Chain>, AllocError>
     ensures some { IfOk result (λ found. IfSome found (λ chain. Falls closed.now chain)) }
     ensures all { IfOk result (λ found. (k : ℕ) (to : Node) → slice_get ends.now k ≡ Some to
@@ -118,7 +118,7 @@ fn falling_from(closed: &Closed, from: Node, ends: &[Node]) -> Result<Option<Cha
     Ok(best)
 }
 
-/// A shortest chain from one of some nodes to one of others, where they are numbers that fall.
+// A shortest chain from one of some nodes to one of others, where they are numbers that fall.
 fn falling_between(
     closed: &Closed,
     starts: &[Node],
@@ -136,7 +136,7 @@ fn falling_between(
     Ok(best)
 }
 
-/// A shortest chain by the facts of a question from a number to a smaller one.
+// A shortest chain by the facts of a question from a number to a smaller one.
 fn shortest_fall(
     closed: &Closed,
     mine: &Access,

@@ -27,7 +27,7 @@ pub struct ClassPairs {
     pub rows: Vec<Row>,
 }
 
-/// The accesses that are the last of their class.
+// The accesses that are the last of their class.
 fn last_places(alloc: Global, classes: &AccessClasses) -> Result<Vec<Placed>, AllocError>
     requires one_each { length classes.now.numbers.items
         ≡ length classes.now.places.items }
@@ -43,7 +43,7 @@ fn last_places(alloc: Global, classes: &AccessClasses) -> Result<Vec<Placed>, Al
     Ok(places)
 }
 
-/// Adds what the access of a number asks of each, by the numbers of both among all.
+// Adds what the access of a number asks of each, by the numbers of both among all.
 fn push_row(classes: &AccessClasses, number: usize, seconds: &[Placed], pairs: &mut Vec<PlacePair>)
     requires few { length classes.now.places.items ≤ 2 ^ 32 }
     requires number { number < length classes.now.places.items }

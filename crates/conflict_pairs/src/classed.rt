@@ -48,8 +48,8 @@ impl<'a> Model for ClassTable<'a> {
     ghost invariant = { λ t. AreClassesJudged t.paths.now t.classes t.asked t.judged };
 }
 
-/// The classes of the accesses of some paths, and which ask something of each other. The questions
-/// are counted before any memory is taken.
+// The classes of the accesses of some paths, and which ask something of each other. The questions
+// are counted before any memory is taken.
 fn asked_classes(alloc: Global, paths: &[Path]) -> Result<(AccessClasses, ClassPairs), PairFault>
     ensures classes { IfOk result (λ told. AreClassesOf paths.now told.0) }
     ensures pairs { IfOk result (λ told. AreClassPairs paths.now told.0 told.1) }

@@ -30,7 +30,7 @@ pub struct AccessClasses {
     pub nodes: Vec<Vec<usize>>,
 }
 
-/// Gives one number to the accesses of one class.
+// Gives one number to the accesses of one class.
 #[derive(Drop)]
 struct Numbering<'a> {
     // For each node the first one with the same covers.
@@ -62,8 +62,8 @@ impl<'a> Interner for Numbering<'a> {
     }
 }
 
-/// For each access the number of its class, as far as classes are remembered, and how many numbers
-/// there are.
+// For each access the number of its class, as far as classes are remembered, and how many numbers
+// there are.
 fn numbers_of(
     alloc: Global,
     classes: &[usize],
@@ -77,7 +77,7 @@ fn numbers_of(
     Ok((numbers, values.len()))
 }
 
-/// For each node where its accesses begin among all.
+// For each node where its accesses begin among all.
 fn starts_of(alloc: Global, paths: &[Path]) -> Result<Vec<usize>, AllocError>
     requires { length (all_from 0 paths.now) < 2 ^ 64 }
     ensures { IfOk result (λ starts. starts.items ≡ starts_from 0 paths.now) }
@@ -91,7 +91,7 @@ fn starts_of(alloc: Global, paths: &[Path]) -> Result<Vec<usize>, AllocError>
     Ok(starts)
 }
 
-/// Enters an access under the number of its class.
+// Enters an access under the number of its class.
 fn enter(marks: &mut Vec<u32>, numbers: &[u32], n: usize)
     requires few { length numbers.now ≤ 2 ^ 32 }
     requires number { n < length numbers.now }
@@ -101,7 +101,7 @@ fn enter(marks: &mut Vec<u32>, numbers: &[u32], n: usize)
     marks[numbers[n] as usize] = n as u32;
 }
 
-/// For each class its first access.
+// For each class its first access.
 fn firsts_of(alloc: Global, numbers: &[u32], count: usize) -> Result<Vec<u32>, AllocError>
     requires few { length numbers.now ≤ 2 ^ 32 }
     requires within { All (λ c. c < count) numbers.now }
@@ -117,7 +117,7 @@ fn firsts_of(alloc: Global, numbers: &[u32], count: usize) -> Result<Vec<u32>, A
     Ok(firsts)
 }
 
-/// For each class its last access.
+// For each class its last access.
 fn lasts_of(alloc: Global, numbers: &[u32], count: usize) -> Result<Vec<u32>, AllocError>
     requires few { length numbers.now ≤ 2 ^ 32 }
     requires within { All (λ c. c < count) numbers.now }
@@ -130,7 +130,7 @@ fn lasts_of(alloc: Global, numbers: &[u32], count: usize) -> Result<Vec<u32>, Al
     Ok(lasts)
 }
 
-/// Adds a node, unless it was added last.
+// Adds a node, unless it was added last.
 fn push_node(nodes: &mut Vec<usize>, node: usize) -> Result<(), AllocError>
     ensures { OnOk result ((x : ℕ) → Contains nodes.new.items x
         ↔ (Contains nodes.old.items x ⊎ (x ≡ node))) }
@@ -142,7 +142,7 @@ fn push_node(nodes: &mut Vec<usize>, node: usize) -> Result<(), AllocError>
     Ok(())
 }
 
-/// So many lists without nodes.
+// So many lists without nodes.
 fn empty_lists(alloc: Global, count: usize) -> Result<Vec<Vec<usize>>, AllocError>
     ensures size { IfOk result (λ lists. length lists.items ≡ count) }
     ensures empty { IfOk result (λ lists. (c : ℕ) → nodes_at lists.items c ≡ []) }
@@ -154,7 +154,7 @@ fn empty_lists(alloc: Global, count: usize) -> Result<Vec<Vec<usize>>, AllocErro
     Ok(lists)
 }
 
-/// For each class the nodes that have an access of it.
+// For each class the nodes that have an access of it.
 fn nodes_of(
     alloc: Global,
     places: &[Placed],

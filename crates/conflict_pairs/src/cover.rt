@@ -12,15 +12,15 @@ use prog_paths::{mine_node, second_terms, their_node};
 use prog_tree::Sequence;
 use std::alloc::{AllocError, Global};
 
-/// Whether the facts put a node at most another one in one step.
+// Whether the facts put a node at most another one in one step.
 fn is_one_step(closed: &Closed, from: Node, to: Node) -> bool
     ensures { IsTrue result → (from ≢ to) × IsStep closed.now from to }
 {
     !is_same_node(from, to) && closed.has_step(from, to)
 }
 
-/// A shortest chain between two nodes of which the facts put the first at most the second. One of
-/// a single step takes no memory.
+// A shortest chain between two nodes of which the facts put the first at most the second. One of
+// a single step takes no memory.
 fn chain_between(closed: &Closed, from: Node, to: Node) -> Result<Chain, AllocError>
     requires consistent { IsConsistent closed.now }
     requires entailed { Entails closed.now from to }
@@ -36,7 +36,7 @@ fn chain_between(closed: &Closed, from: Node, to: Node) -> Result<Chain, AllocEr
     }
 }
 
-/// Adds a chain from one term to another, and one back.
+// Adds a chain from one term to another, and one back.
 fn push_both(
     closed: &Closed,
     mine: Term,

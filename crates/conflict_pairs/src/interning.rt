@@ -58,7 +58,7 @@ const SPREAD: usize = 0x9E37_79B9_7F4A_7C15;
 // and so ask few lines of the cache.
 const BLOCK: usize = 64;
 
-/// The slot of a hash among so many. Any of them may come out where their number is a power of 2.
+// The slot of a hash among so many. Any of them may come out where their number is a power of 2.
 fn slot_of(slots: usize, hash: usize) -> usize
     requires { 0 < slots }
     ensures { result < slots }
@@ -135,7 +135,7 @@ pub fn push_numbered<V: Drop>(values: &mut Vec<V>, value: V) -> Result<u32, Allo
     Ok(number as u32)
 }
 
-/// Whether the value of a number serves a key.
+// Whether the value of a number serves a key.
 fn is_remembered<I: Interner>(interner: &I, key: &I::Key, values: &[I::Value], number: u32) -> bool
     requires takes { I.takes interner.now key.now }
     requires sound { All (I.is_sound interner.now) values.now }
@@ -146,8 +146,8 @@ fn is_remembered<I: Interner>(interner: &I, key: &I::Key, values: &[I::Value], n
         .is_some_and(|value| interner.is_served(key, value))
 }
 
-/// The number of a value that serves a key. Keys in a row are often alike, so the number of the
-/// last one is tried first, and the slot is asked where it fails.
+// The number of a value that serves a key. Keys in a row are often alike, so the number of the
+// last one is tried first, and the slot is asked where it fails.
 fn number_of<I: Interner>(
     alloc: Global,
     interner: &I,

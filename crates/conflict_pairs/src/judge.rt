@@ -29,7 +29,7 @@ use prog_paths::{Placed, Question, asks_read_write, closed_facts, least_cover};
 use prog_tree::Sequence;
 use std::alloc::{AllocError, Global};
 
-/// The least pair that covers, where one is looked for: for a possible read-write dependency.
+// The least pair that covers, where one is looked for: for a possible read-write dependency.
 fn cover(
     closed: &Closed,
     mine: Kind,
@@ -48,7 +48,7 @@ fn cover(
     }
 }
 
-/// The chains of a pair that covers.
+// The chains of a pair that covers.
 fn chains_at(
     alloc: Global,
     closed: &Closed,
@@ -67,7 +67,7 @@ fn chains_at(
     cover_chains(alloc, closed, &mine, &theirs)
 }
 
-/// What is said of a question that nothing covers.
+// What is said of a question that nothing covers.
 fn uncovered_verdict(closed: &Closed, mine: &Access, theirs: &Access) -> Result<Verdict, AllocError>
     requires { closed.now ≡ question_facts mine.now theirs.now }
     ensures { IfOk result (λ verdict. IsUncovered closed.now verdict) }
@@ -81,7 +81,7 @@ fn uncovered_verdict(closed: &Closed, mine: &Access, theirs: &Access) -> Result<
     }
 }
 
-/// What the closed facts say of the question of two accesses of two paths.
+// What the closed facts say of the question of two accesses of two paths.
 fn verdict_by_closed(
     alloc: Global,
     xs: &[Access],
@@ -103,8 +103,8 @@ fn verdict_by_closed(
     uncovered_verdict(&closed, mine, theirs)
 }
 
-/// What the facts say of the question of two accesses of two paths, at once where two of its
-/// numbers fall.
+// What the facts say of the question of two accesses of two paths, at once where two of its
+// numbers fall.
 fn verdict_by_facts(
     alloc: Global,
     xs: &[Access],
@@ -137,7 +137,7 @@ pub fn verdict(alloc: Global, x: &Path, a: usize, y: &Path, b: usize) -> Result<
     verdict_by_facts(alloc, xs, ys, &xs[a], &ys[b])
 }
 
-/// Whether the closed facts of two accesses can be met, and nothing in their lists covers.
+// Whether the closed facts of two accesses can be met, and nothing in their lists covers.
 fn is_left_open_by_closed(
     alloc: Global,
     xs: &[Access],
@@ -154,8 +154,8 @@ fn is_left_open_by_closed(
     Ok(cover(&closed, mine.kind, theirs.kind, xs, ys).is_none())
 }
 
-/// Whether the facts of two accesses can be met, and nothing in their lists covers, at once where
-/// two numbers of a column fall.
+// Whether the facts of two accesses can be met, and nothing in their lists covers, at once where
+// two numbers of a column fall.
 fn is_left_open_by_facts(
     alloc: Global,
     xs: &[Access],
@@ -195,7 +195,7 @@ pub fn is_exposed_question(
     is_left_open_by_facts(alloc, xs, ys, &xs[a], &ys[b])
 }
 
-/// What the facts say of a question of the paths.
+// What the facts say of a question of the paths.
 fn verdict_of(alloc: Global, paths: &[Path], question: &Question) -> Result<Verdict, AllocError>
     requires { IsAsked paths.now question.now }
     ensures { IfOk result (λ verdict. IsJudgedAt paths.now question.now verdict) }
@@ -208,8 +208,8 @@ fn verdict_of(alloc: Global, paths: &[Path], question: &Question) -> Result<Verd
 // So many pairs have one verdict at least, mostly.
 const PAIRS_OF_A_VERDICT: usize = 8;
 
-/// The number of a verdict on the question of a pair: that of an earlier pair, where its place is
-/// remembered and its verdict is one on this pair too, or the number of a new one.
+// The number of a verdict on the question of a pair: that of an earlier pair, where its place is
+// remembered and its verdict is one on this pair too, or the number of a new one.
 fn number_of_pair(
     alloc: Global,
     paths: &[Path],

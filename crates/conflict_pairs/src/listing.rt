@@ -31,7 +31,7 @@ pub struct Listed {
     pub numbers: Vec<u32>,
 }
 
-/// Enters the number of the verdict on each pair of a row under the class of its second access.
+// Enters the number of the verdict on each pair of a row under the class of its second access.
 fn spread(
     classes: &AccessClasses,
     pairs: &[PlacePair],
@@ -52,8 +52,8 @@ fn spread(
     }
 }
 
-/// Adds what the access of a number asks of each, with the numbers of the verdicts, which are those
-/// of the classes.
+// Adds what the access of a number asks of each, with the numbers of the verdicts, which are those
+// of the classes.
 fn push_questions(
     classes: &AccessClasses,
     number: usize,

@@ -21,7 +21,7 @@ use rayon::prelude::*;
 use std::alloc::{AllocError, Global};
 use std::thread::Threads;
 
-/// How many questions a part has, of so many.
+// How many questions a part has, of so many.
 fn part_len(questions: usize) -> usize
     ensures { 0 < result }
 {
@@ -32,8 +32,8 @@ fn part_len(questions: usize) -> usize
     }
 }
 
-/// The verdicts on the questions of some pairs of accesses, and for each pair the number of its
-/// own, in parts that threads of their own make where there are many.
+// The verdicts on the questions of some pairs of accesses, and for each pair the number of its
+// own, in parts that threads of their own make where there are many.
 fn parts_of(
     rt: &(impl Threads + Sync),
     alloc: Global,
@@ -57,8 +57,8 @@ fn parts_of(
         .collect::<Result<Vec<Interned<Verdict>>, AllocError>>(rt, alloc)?
 }
 
-/// The number that a verdict of a part has among those of all, of which so many stand before the
-/// part. One that 32 bits can't say is answered as want of memory.
+// The number that a verdict of a part has among those of all, of which so many stand before the
+// part. One that 32 bits can't say is answered as want of memory.
 fn number_behind(before: usize, number: u32) -> Result<u32, AllocError>
     ensures { IfOk result (λ behind. behind ≡ before + number) }
 {
@@ -71,7 +71,7 @@ fn number_behind(before: usize, number: u32) -> Result<u32, AllocError>
     Ok(behind as u32)
 }
 
-/// Adds the numbers of a part, of whose verdicts so many stand before.
+// Adds the numbers of a part, of whose verdicts so many stand before.
 fn push_numbers(numbers: &mut Vec<u32>, before: usize, of_part: &[u32]) -> Result<(), AllocError>
     ensures { OnOk result (numbers.new.items
         ≡ numbers.old.items ++ map (λ n. before + n) of_part.now) }
@@ -83,7 +83,7 @@ fn push_numbers(numbers: &mut Vec<u32>, before: usize, of_part: &[u32]) -> Resul
     Ok(())
 }
 
-/// How many verdicts all parts have, for the room that these take.
+// How many verdicts all parts have, for the room that these take.
 fn verdict_count(parts: &[Interned<Verdict>]) -> usize {
     let mut count: usize = 0;
     for part in parts {
@@ -92,8 +92,8 @@ fn verdict_count(parts: &[Interned<Verdict>]) -> usize {
     count
 }
 
-/// The verdicts of all parts, one part after the other, and for each of so many pairs the number of
-/// its own.
+// The verdicts of all parts, one part after the other, and for each of so many pairs the number of
+// its own.
 fn all_verdicts(
     alloc: Global,
     count: usize,

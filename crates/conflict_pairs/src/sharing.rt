@@ -28,7 +28,7 @@ fn are_same_chains(chains: &[Chain], others: &[Chain]) -> bool
     true
 }
 
-/// Whether two verdicts are the same. Those that are exposed are not compared.
+// Whether two verdicts are the same. Those that are exposed are not compared.
 fn is_same(one: &Verdict, other: &Verdict) -> bool
     ensures { IsTrue result → one.now ≡ other.now }
 {
@@ -58,7 +58,7 @@ pub fn access_at(paths: &[Path], node: usize, number: usize) -> &Access
     &paths[node].accesses.as_slice()[number]
 }
 
-/// Whether the accesses of two questions are alike, side by side.
+// Whether the accesses of two questions are alike, side by side.
 fn are_alike_sides(paths: &[Path], one: &Question, other: &Question) -> bool
     requires one { IsAsked paths.now one.now }
     requires other { IsAsked paths.now other.now }
@@ -85,8 +85,8 @@ pub fn hash_on(paths: &[Path], question: &Question, found: &Verdict) -> usize
     found.hash()
 }
 
-/// Whether the verdict that is kept for another question is one on a question too: it is the same
-/// as the one that was found, or both are exposed, and the accesses are alike.
+// Whether the verdict that is kept for another question is one on a question too: it is the same
+// as the one that was found, or both are exposed, and the accesses are alike.
 fn is_shared(
     paths: &[Path],
     question: &Question,

@@ -7,7 +7,7 @@ use crate::hashes::{mix, node_hash};
 use order_facts::Sample;
 use prog_tree::Sequence;
 
-/// The hash of a chain: of its first two nodes.
+// The hash of a chain: of its first two nodes.
 fn chain_hash(chain: &Chain) -> usize {
     match chain.as_slice() {
         [] => 0,
@@ -16,7 +16,7 @@ fn chain_hash(chain: &Chain) -> usize {
     }
 }
 
-/// The hash of some chains: of the first and the last.
+// The hash of some chains: of the first and the last.
 fn chains_hash(chains: &[Chain]) -> usize {
     match chains {
         [] => 0,

@@ -9,7 +9,8 @@ use Rattle.dep_graph.specs.declared.danger.Danger.{Danger}
 use Rattle.dep_graph.specs.declared.danger.Exposure.{Exposure}
 use Rattle.dep_graph.specs.Ways.{IsLeastWay}
 
--- the question of these numbers is exposed, and may be a read-write dependency: it is told with its kinds and its sample
+-- the question of these numbers is exposed, and may be a read-write dependency:
+-- it is told with its kinds and its sample
 pub record IsExposureAt (paths : List Path) (q : QuestionNumbers) (e : Exposure) : Type 0 where
   pub mine : Access
   pub theirs : Access
@@ -20,7 +21,8 @@ pub record IsExposureAt (paths : List Path) (q : QuestionNumbers) (e : Exposure)
   pub their_kind : e.question.theirs ≡ theirs.kind
   pub sample : IsExposedBy paths q mine theirs e.sample
 
--- so it is of access `a` of x against an access of y, and none of its questions that make the edge vulnerable is before it
+-- so it is of access `a` of x against an access of y,
+-- and none of its questions that make the edge vulnerable is before it
 pub record IsLeastOfAccess (paths : List Path) (x a y : ℕ) (e : Exposure) : Type 0 where
   pub number : ℕ
   pub exposure : IsExposureAt paths (record { x = x; a = a; y = y; b = number }) e

@@ -6,7 +6,7 @@ ghost use Rattle.dep_graph.specs.Reaching.{IsReachOf, JoinsEachToItself};
 use order_facts::Square;
 use std::alloc::AllocError;
 
-/// The edges, with each node joined to itself too.
+// The edges, with each node joined to itself too.
 fn with_itself(edges: &Square) -> Result<Square, AllocError>
     ensures { IfOk result (λ s. JoinsEachToItself s edges.now) }
 {

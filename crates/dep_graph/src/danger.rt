@@ -32,7 +32,7 @@ pub struct Danger {
     pub back: Sequence<usize>,
 }
 
-/// The accesses of a node.
+// The accesses of a node.
 fn accesses_of(paths: &[Path], x: usize) -> &[Access]
     requires { x < length paths.now }
     ensures { result.now ≡ accesses_at paths.now x }
@@ -40,7 +40,7 @@ fn accesses_of(paths: &[Path], x: usize) -> &[Access]
     paths[x].accesses.as_slice()
 }
 
-/// Whether the first access may miss what the second changes.
+// Whether the first access may miss what the second changes.
 fn may_miss(mine: &Access, theirs: &Access) -> bool
     ensures { IsTrue result
         ↔ ((mine.now.table ≡ theirs.now.table) × AsksReadWrite mine.now.kind theirs.now.kind) }
@@ -48,8 +48,8 @@ fn may_miss(mine: &Access, theirs: &Access) -> bool
     mine.table == theirs.table && asks_read_write(mine.kind, theirs.kind)
 }
 
-/// The question of access `a` of the node `x` against access `b` of `y`, with its sample, where it
-/// makes the edge from `x` to `y` vulnerable.
+// The question of access `a` of the node `x` against access `b` of `y`, with its sample, where it
+// makes the edge from `x` to `y` vulnerable.
 fn exposure_at(
     alloc: Global,
     paths: &[Path],
@@ -89,8 +89,8 @@ fn exposure_at(
     }
 }
 
-/// The first question of access `a` of the node `x` that makes the edge to `y` vulnerable, with its
-/// sample.
+// The first question of access `a` of the node `x` that makes the edge to `y` vulnerable, with its
+// sample.
 fn first_of_access(
     alloc: Global,
     paths: &[Path],

@@ -7,7 +7,7 @@ ghost use Rattle.dep_graph.specs.Distances.{KnowsWithin};
 use order_facts::Square;
 use std::alloc::{AllocError, Global};
 
-/// Whether an edge leads from the node to one of known distance.
+// Whether an edge leads from the node to one of known distance.
 fn leads_to_known(edges: &Square, distances: &[Option<usize>], node: usize) -> bool
     requires node { node < edges.now.size }
     requires size { length distances.now ≡ edges.now.size }
@@ -23,7 +23,7 @@ fn leads_to_known(edges: &Square, distances: &[Option<usize>], node: usize) -> b
     false
 }
 
-/// The node's distance after one more round, in which what leads to a known one becomes known.
+// The node's distance after one more round, in which what leads to a known one becomes known.
 fn next_distance(
     edges: &Square,
     distances: &[Option<usize>],

@@ -13,7 +13,7 @@ use order_facts::{NodeSet, Square};
 use prog_paths::{EdgeTables, Gives, gives_by};
 use std::alloc::{AllocError, Global};
 
-/// Has a set have some nodes, and no others.
+// Has a set have some nodes, and no others.
 fn fill(set: &mut NodeSet, nodes: &[usize])
     ensures size { length set.new ≡ length set.old }
     ensures nodes { (n : ℕ) → n < length set.old → is_in set.new n ≡ is_one_of nodes.now n }
@@ -26,7 +26,7 @@ fn fill(set: &mut NodeSet, nodes: &[usize])
     }
 }
 
-/// Joins each of some nodes to each node of a set.
+// Joins each of some nodes to each node of a set.
 fn join_to_set(table: &mut Square, nodes: &[usize], set: &NodeSet)
     requires { length set.now ≡ table.old.size }
     ensures { Enters table.old table.new (λ x y. is_one_of nodes.now x && is_in set.now y) }
@@ -38,7 +38,7 @@ fn join_to_set(table: &mut Square, nodes: &[usize], set: &NodeSet)
     }
 }
 
-/// Joins a node to another one.
+// Joins a node to another one.
 fn join_one(table: &mut Square, x: usize, y: usize)
     ensures { Enters table.old table.new (λ i j. (x == i) && (y == j)) }
 {
@@ -47,7 +47,7 @@ fn join_one(table: &mut Square, x: usize, y: usize)
     }
 }
 
-/// Joins a node to each of others.
+// Joins a node to each of others.
 fn join_each(table: &mut Square, x: usize, others: &[usize])
     ensures { Enters table.old table.new (λ i j. (x == i) && is_one_of others.now j) }
 {
@@ -56,7 +56,7 @@ fn join_each(table: &mut Square, x: usize, others: &[usize])
     }
 }
 
-/// Joins each of some nodes to another one.
+// Joins each of some nodes to another one.
 fn join_each_to(table: &mut Square, nodes: &[usize], y: usize)
     ensures { Enters table.old table.new (λ i j. is_one_of nodes.now i && (y == j)) }
 {
@@ -65,9 +65,9 @@ fn join_each_to(table: &mut Square, nodes: &[usize], y: usize)
     }
 }
 
-/// Joins each of some nodes to each of others where that is given. The others are put into the set,
-/// but where there is one node on a side: a set is filled to be joined to several, and for one bit
-/// it is not worth its while.
+// Joins each of some nodes to each of others where that is given. The others are put into the set,
+// but where there is one node on a side: a set is filled to be joined to several, and for one bit
+// it is not worth its while.
 fn join_given(
     is_given: bool,
     table: &mut Square,
@@ -93,7 +93,7 @@ fn join_given(
     }
 }
 
-/// Enters what is given from each of some nodes to each of others.
+// Enters what is given from each of some nodes to each of others.
 fn enter_given(
     tables: &mut EdgeTables,
     set: &mut NodeSet,
@@ -120,8 +120,8 @@ fn enter_given(
     );
 }
 
-/// Enters what the pair of classes of a number gives: the same for each node of the first and each
-/// of the second. Accesses that never meet give nothing.
+// Enters what the pair of classes of a number gives: the same for each node of the first and each
+// of the second. Accesses that never meet give nothing.
 fn enter_answer(tables: &mut EdgeTables, set: &mut NodeSet, table: &ClassTable<'_>, n: usize)
     requires number { n < length table.now.answers }
     requires nodes { HaveNodes tables.old (length set.old) }

@@ -40,7 +40,7 @@ impl<'a> Model for Graph<'a> {
     ghost invariant = { λ g. IsGraphOf g.paths.now g.edges g.vulnerable g.reach };
 }
 
-/// How many nodes are joined to the node.
+// How many nodes are joined to the node.
 fn reacher_count(matrix: &Square, to: usize) -> usize
     requires { to < matrix.now.size }
     ensures count { IsCountOf (λ from. entry matrix.now from to ≡ true) matrix.now.size result }

@@ -10,7 +10,7 @@ use crate::distances::{first_distances, next_distances};
 use order_facts::Square;
 use std::alloc::{AllocError, Global};
 
-/// The least node that an edge leads to and that is so many steps from the end.
+// The least node that an edge leads to and that is so many steps from the end.
 fn nearer_node(edges: &Square, distances: &[Option<usize>], node: usize, steps: usize) -> usize
     requires node { node < edges.now.size }
     requires size { length distances.now ≡ edges.now.size }
@@ -27,7 +27,7 @@ fn nearer_node(edges: &Square, distances: &[Option<usize>], node: usize, steps: 
     unreachable!()
 }
 
-/// The way from a node of known distance, always on to the least node that is nearer.
+// The way from a node of known distance, always on to the least node that is nearer.
 fn walk(
     alloc: Global,
     edges: &Square,

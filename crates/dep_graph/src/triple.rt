@@ -14,7 +14,7 @@ pub struct Triple {
     pub z: usize,
 }
 
-/// The least node that closes a dangerous structure behind `x` and `y`.
+// The least node that closes a dangerous structure behind `x` and `y`.
 fn least_end(vulnerable: &Square, reach: &Square, x: usize, y: usize) -> Option<usize>
     requires first { Joins vulnerable.now x y }
     requires size { reach.now.size ≡ vulnerable.now.size }
@@ -31,7 +31,7 @@ fn least_end(vulnerable: &Square, reach: &Square, x: usize, y: usize) -> Option<
     None
 }
 
-/// The least two nodes that make a dangerous structure behind `x`.
+// The least two nodes that make a dangerous structure behind `x`.
 fn least_pair(vulnerable: &Square, reach: &Square, x: usize) -> Option<Triple>
     requires x { x < vulnerable.now.size }
     requires size { reach.now.size ≡ vulnerable.now.size }

@@ -18,8 +18,8 @@ instance_start_cmp a b = ordering_then (nat_cmp a.start b.start) (nat_cmp a.numb
 abbrev pub is_start_of : List (ℕ × Instance) → InstanceStart → Bool
 is_start_of active b = is_some (with_start b.start (lookup (is_at (nat_cmp b.number)) active))
 
--- the active instances are in the order of their numbers; a set has starts of some: those that began out of turn; of the
--- others none has an older start than one of a lesser number; no start is above the newest
+-- the active instances are in the order of their numbers; a set has starts of some: those that began out of turn; of
+-- the others none has an older start than one of a lesser number; no start is above the newest
 pub record AreInTurn (active : List (ℕ × Instance)) (others : BTreeSet InstanceStart) (newest : ℕ) : Type 0
   where
     pub ordered : IsStrictlySortedBy nat_cmp (keys_of active)

@@ -7,7 +7,7 @@ use crate::square::Square;
 use crate::steps::{Fact, is_below};
 use std::alloc::{AllocError, Global};
 
-/// Joins a fact to those whose lower node its upper node is below.
+// Joins a fact to those whose lower node its upper node is below.
 fn enter_ends(matrix: &mut Square, facts: &[Fact], from: usize)
     requires size { matrix.old.size ≡ length facts.now }
     requires from { from < length facts.now }
@@ -20,7 +20,7 @@ fn enter_ends(matrix: &mut Square, facts: &[Fact], from: usize)
     }
 }
 
-/// What leads to what with no fact between.
+// What leads to what with no fact between.
 fn ends_of(alloc: Global, facts: &[Fact]) -> Result<Square, AllocError>
     ensures { IfOk result (λ m. IsMatrixOf m facts.now []) }
 {

@@ -6,7 +6,7 @@ use crate::steps::Node;
 use std::alloc::{AllocError, Global};
 use std::marker::Model;
 
-/// One node, two of them, or a list.
+// One node, two of them, or a list.
 #[derive(Debug, Drop)]
 enum NodeList {
     One([Node; 1]),

@@ -37,7 +37,7 @@ impl Model for Sample {
     ghost view = { λ s. s.choices.items };
 }
 
-/// The greatest number that the facts put below the node.
+// The greatest number that the facts put below the node.
 fn low_bound(facts: &[Fact], matrix: &Square, node: Node) -> i64
     requires { IsMatrixOf matrix.now facts.now facts.now }
     ensures below { reaches facts.now (Number result) node ≡ true }
@@ -53,7 +53,7 @@ fn low_bound(facts: &[Fact], matrix: &Square, node: Node) -> i64
     low
 }
 
-/// The least number that the facts put above the node.
+// The least number that the facts put above the node.
 fn high_bound(facts: &[Fact], matrix: &Square, node: Node) -> i64
     requires { IsMatrixOf matrix.now facts.now facts.now }
     ensures above { reaches facts.now node (Number result) ≡ true }
@@ -69,7 +69,7 @@ fn high_bound(facts: &[Fact], matrix: &Square, node: Node) -> i64
     high
 }
 
-/// The number nearest to 0 between the node's bounds.
+// The number nearest to 0 between the node's bounds.
 fn nearest_number(facts: &[Fact], matrix: &Square, node: Node) -> i64
     requires matrix { IsMatrixOf matrix.now facts.now facts.now }
     requires consistent { IsConsistent facts.now }
@@ -78,14 +78,14 @@ fn nearest_number(facts: &[Fact], matrix: &Square, node: Node) -> i64
     low_bound(facts, matrix, node).max(high_bound(facts, matrix, node).min(0))
 }
 
-/// Whether the node needs no choice: it is a number, or has one.
+// Whether the node needs no choice: it is a number, or has one.
 fn has_choice(choices: &[Choice], node: Node) -> bool
     ensures { IsTrue result ↔ HasChoice choices.now node }
 {
     matches!(node, Node::Number(_)) || choices.iter().any(|choice| is_same_node(choice.node, node))
 }
 
-/// Adds the node's choice where it needs one.
+// Adds the node's choice where it needs one.
 fn choose(
     choices: &mut Vec<Choice>,
     facts: &[Fact],

@@ -12,8 +12,8 @@ ghost use Rattle.order_facts.specs.Search.{Spreads};
 use crate::steps::{Fact, Node, is_same_node, is_step};
 use std::alloc::{AllocError, Global};
 
-/// A node from which the chain's end is reached in so many steps, the first to what was reached at
-/// the place `next`.
+// A node from which the chain's end is reached in so many steps, the first to what was reached at
+// the place `next`.
 #[derive(Clone, Copy)]
 struct Reached {
     node: Node,
@@ -21,7 +21,7 @@ struct Reached {
     next: usize,
 }
 
-/// The place of the first reached node that may stand behind `node` in a chain.
+// The place of the first reached node that may stand behind `node` in a chain.
 fn step_from(facts: &[Fact], reached: &[Reached], node: Node) -> Option<usize>
     ensures found { IfSome result
         (λ k. (k < length reached.now) × IsStep facts.now node (reached_at reached.now k).node) }
@@ -32,14 +32,14 @@ fn step_from(facts: &[Fact], reached: &[Reached], node: Node) -> Option<usize>
     reached.iter().position(|r| is_step(facts, node, r.node))
 }
 
-/// Whether the node was reached.
+// Whether the node was reached.
 fn has_reached(reached: &[Reached], node: Node) -> bool
     ensures { IsTrue result ↔ HasReached reached.now node }
 {
     reached.iter().any(|r| is_same_node(r.node, node))
 }
 
-/// Adds the node where it is new and a step from one of the first `known`.
+// Adds the node where it is new and a step from one of the first `known`.
 fn reach(
     facts: &[Fact],
     reached: &mut Vec<Reached>,
@@ -58,7 +58,7 @@ fn reach(
     Ok(())
 }
 
-/// Adds the ends of facts that are new and a step from what was reached.
+// Adds the ends of facts that are new and a step from what was reached.
 fn spread(facts: &[Fact], reached: &mut Vec<Reached>, steps: usize) -> Result<(), AllocError>
     ensures { OnOk result (Spreads facts.now reached.old.items reached.new.items steps) }
 {
@@ -70,7 +70,7 @@ fn spread(facts: &[Fact], reached: &mut Vec<Reached>, steps: usize) -> Result<()
     Ok(())
 }
 
-/// The chain from `x` by what was reached at `first` to the end.
+// The chain from `x` by what was reached at `first` to the end.
 fn walk(alloc: Global, reached: &[Reached], x: Node, first: usize) -> Result<Vec<Node>, AllocError>
     requires first { first < length reached.now }
     requires descending { IsDescending reached.now }

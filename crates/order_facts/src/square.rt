@@ -29,7 +29,7 @@ impl Model for Square {
     ghost invariant = { λ m. AreRows m.size m.width m.words.items };
 }
 
-/// The least bit of a word from `start` on that is set.
+// The least bit of a word from `start` on that is set.
 fn next_bit(word: u64, start: usize) -> Option<usize>
     requires { start < 64 }
     ensures found { IfSome result (λ bit. IsNextBit word start bit) }
@@ -42,7 +42,7 @@ fn next_bit(word: u64, start: usize) -> Option<usize>
     Some(start + rest.trailing_zeros() as usize)
 }
 
-/// Sets the bits of so many words in as many others.
+// Sets the bits of so many words in as many others.
 fn join_words(words: &mut Vec<u64>, into: usize, from: usize, count: usize)
     requires into { into + count ≤ length words.old.items }
     requires from { from + count ≤ length words.old.items }
@@ -54,7 +54,7 @@ fn join_words(words: &mut Vec<u64>, into: usize, from: usize, count: usize)
     }
 }
 
-/// Sets the bits of so many words of others in as many of these.
+// Sets the bits of so many words of others in as many of these.
 fn join_others(words: &mut Vec<u64>, into: usize, others: &[u64], count: usize)
     requires into { into + count ≤ length words.old.items }
     requires others { count ≤ length others.now }

@@ -58,7 +58,7 @@ pub fn reaches(facts: &[Fact], matrix: &Square, x: Node, y: Node) -> bool
     false
 }
 
-/// Whether the lower node of the fact at `from` is put below no node that is surely less.
+// Whether the lower node of the fact at `from` is put below no node that is surely less.
 fn row_is_orderly(facts: &[Fact], matrix: &Square, from: usize) -> bool
     requires matrix { IsMatrixOf matrix.now facts.now facts.now }
     requires from { from < length facts.now }

@@ -1,5 +1,5 @@
--- The laws of accesses in the bodies of `each`, which are made at many times: their unknowns are their own, so the cell of
--- an access that covers is the same at each time of any other.
+-- The laws of accesses in the bodies of `each`, which are made at many times: their unknowns are their own, so the cell
+-- of an access that covers is the same at each time of any other.
 use Rattle.std.specs.Prelude.{◌≡◌, ℕ, ℤ, List, true, false, All, Contains}
 use Rattle.prog_tree.specs.declared.cell.Cell.{Cell}
 use Rattle.prog_tree.specs.Syntax.{DraftTree}

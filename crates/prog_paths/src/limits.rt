@@ -8,7 +8,7 @@ pub const MAX_QUESTIONS: usize = 1_000_000;
 /// The most statements that are counted: one more than a program of a set has.
 pub const MAX_COUNTED: usize = MAX_STATEMENTS + 1;
 
-/// The most unknowns of a statement.
+// The most unknowns of a statement.
 const UNKNOWNS_OF_A_STATEMENT: usize = 3;
 
 /// More unknowns than a path has ahead of a statement.

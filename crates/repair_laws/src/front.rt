@@ -12,7 +12,7 @@ use crate::plan::NewTable;
 use prog_tree::{Arity, Block, Draft, Name, Program, Stmt, TableDecl, copy_tables};
 use std::alloc::{AllocError, Global};
 
-/// The tables, and behind them a new one for each pair.
+// The tables, and behind them a new one for each pair.
 fn with_tables(
     alloc: Global,
     tables: &[TableDecl],
@@ -32,7 +32,7 @@ fn with_tables(
     Ok(all)
 }
 
-/// What a program of these parameters keeps for all pairs, the first pair's keeps first.
+// What a program of these parameters keeps for all pairs, the first pair's keeps first.
 fn front_of(
     alloc: Global,
     program: usize,
@@ -51,7 +51,7 @@ fn front_of(
     Ok(front)
 }
 
-/// A program with the keeps of all pairs in front.
+// A program with the keeps of all pairs in front.
 fn with_front(
     alloc: Global,
     number: usize,
@@ -73,7 +73,7 @@ fn with_front(
     })
 }
 
-/// The programs with the keeps of all pairs in front.
+// The programs with the keeps of all pairs in front.
 fn all_with_front(
     alloc: Global,
     programs: &[Program],

@@ -9,7 +9,7 @@ use crate::plan::NewTable;
 use prog_tree::{Expr, Key, Name, Stmt};
 use std::alloc::{AllocError, Global};
 
-/// Whether one parameter, or 0, serves for both programs.
+// Whether one parameter, or 0, serves for both programs.
 fn is_one(key: Option<(usize, usize)>) -> bool
     ensures { result ≡ is_one key }
 {
@@ -19,8 +19,8 @@ fn is_one(key: Option<(usize, usize)>) -> bool
     }
 }
 
-/// The parameters that a program keeps for a pair, or none for the key 0. A program with itself
-/// keeps both, where they differ.
+// The parameters that a program keeps for a pair, or none for the key 0. A program with itself
+// keeps both, where they differ.
 fn columns_for(
     alloc: Global,
     program: usize,
@@ -45,7 +45,7 @@ fn columns_for(
     Ok(Vec::new(alloc))
 }
 
-/// The statement that keeps the row of a parameter, or of the key 0.
+// The statement that keeps the row of a parameter, or of the key 0.
 fn keep_in(table: &Name, params: &[Name], column: Option<usize>) -> Result<Stmt, AllocError>
     requires { IsColumn (length params.now) column }
     ensures { IfOk result (λ stmt. IsPlain stmt (keep_in table.now params.now column)) }

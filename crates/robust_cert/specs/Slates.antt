@@ -54,8 +54,8 @@ pub record CanDealOut (reasons : List Reason) (tails : List (String Global)) (to
 abbrev pub slates_left : Slates → List Slate
 slates_left slates = drop slates.given slates.all.items
 
--- entries can be given: each has a reason, the tails of reasons are at hand, and there is room for them, in the piece at
--- hand as on each slate
+-- entries can be given: each has a reason, the tails of reasons are at hand, and there is room for them, in the piece
+-- at hand as on each slate
 pub record CanGive
     (reasons : List Reason) (entries : List Told) (tails : List (String Global)) (room capacity : ℕ) (slates : Slates) : Type 0 where
   pub have_reasons : All (HasReason reasons) entries

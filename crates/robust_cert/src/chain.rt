@@ -25,7 +25,7 @@ impl Model for Chain {
     ghost invariant = { λ c. ChainFits c.nodes };
 }
 
-/// Whether the text can say the number of a node.
+// Whether the text can say the number of a node.
 fn fits(node: Node) -> bool
     ensures small { IsTrue result ↔ IsOfSmall node }
     ensures fits { IsTrue result → NodeFits node }

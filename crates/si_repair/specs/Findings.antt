@@ -43,7 +43,8 @@ abbrev pub verdict_told : Reason → Verdict
 verdict_told (Apart chain) = verdict.Apart chain
 verdict_told (Cover m t chains) = verdict.Covered m t chains
 
--- an entry tells the right verdict on its question: that it can't meet, or the least cover; with chains of the fewest nodes
+-- an entry tells the right verdict on its question: that it can't meet, or the least cover;
+-- with chains of the fewest nodes
 abbrev pub IsOwnEntry : List Path → Entry → Type 0
 IsOwnEntry nodes e = IsRight nodes (question_of e) (verdict_told e.reason)
 

@@ -50,8 +50,8 @@ IsRangeIn ranges number = slice_index_or ranges number false ≡ true
 
 -- ---- reads
 
--- What keeps a read from being promoted, with the access that it may miss: its statement is one of the program's ranges, no
--- parameters and numbers tell its key, or one of the two stands in the body of an `each`.
+-- What keeps a read from being promoted, with the access that it may miss: its statement is one of the program's
+-- ranges, no parameters and numbers tell its key, or one of the two stands in the body of an `each`.
 abbrev pub Hinders : Obstacle → (RangeAt : ℕ → Type 0) → (read other : Access) → Type 0
 Hinders RangeRead RangeAt read other = RangeAt read.place
 Hinders UnknownKey RangeAt read other = HasUnknownKey read

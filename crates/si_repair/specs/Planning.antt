@@ -99,8 +99,8 @@ IsBeforeTurn turn pair = IsPairBefore pair turn
 abbrev pub IsOutside : List Pair → ProgramTriple → Type 0
 IsOutside plan t = (Contains plan (first_pair t) → ⊥) × (Contains plan (second_pair t) → ⊥)
 
--- The list is the plan as far as these pairs go, and the triples are those that close a structure without it. Each has a
--- pair whose turn is still to come.
+-- The list is the plan as far as these pairs go, and the triples are those that close a structure without it. Each has
+-- a pair whose turn is still to come.
 pub record IsPartialPlan (nodes : List Path) (plan : List Pair) (triples : List ProgramTriple)
     (done : Pair → Type 0) : Type 0 where
   pub is_plan : IsPlanFor nodes plan done

@@ -20,7 +20,7 @@ use prog_paths::paths;
 use std::alloc::{AllocError, Global};
 use std::thread::Threads;
 
-/// The levels of the nodes of a table, or its least dangerous structure.
+// The levels of the nodes of a table, or its least dangerous structure.
 fn levels_or_danger(
     alloc: Global,
     table: &ClassTable<'_>,

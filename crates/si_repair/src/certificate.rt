@@ -31,7 +31,7 @@ pub fn levels_of(alloc: Global, graph: &Graph<'_>) -> Result<Vec<u32>, AllocErro
     Ok(levels)
 }
 
-/// For each path how many of its accesses stand in the body of an `each`.
+// For each path how many of its accesses stand in the body of an `each`.
 fn bodies_of(alloc: Global, paths: &[Path]) -> Result<Vec<u32>, AllocError>
     requires { AreFew paths.now }
     ensures { IfOk result (λ bodies. bodies.items ≡ map body_size paths.now) }

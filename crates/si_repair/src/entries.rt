@@ -42,7 +42,7 @@ fn told_question(asked: Question) -> EntryQuestion
     }
 }
 
-/// Adds a question with the number of its reason, unless it is exposed.
+// Adds a question with the number of its reason, unless it is exposed.
 fn push_told(asked: Question, verdict: &Verdict, number: u32, told: &mut Vec<Told>)
     requires fits { AskedFits asked }
     requires room { vec_len told.old < vec_capacity told.old }
@@ -60,7 +60,7 @@ fn push_told(asked: Question, verdict: &Verdict, number: u32, told: &mut Vec<Tol
     });
 }
 
-/// What is told of the questions of a part that are not exposed, by the numbers of their reasons.
+// What is told of the questions of a part that are not exposed, by the numbers of their reasons.
 fn told_of_part(
     alloc: Global,
     part: &TablePart<'_>,
@@ -80,7 +80,7 @@ fn told_of_part(
     Ok(told)
 }
 
-/// What is told of the questions that some accesses ask.
+// What is told of the questions that some accesses ask.
 fn told_of_some(
     alloc: Global,
     table: &ClassTable<'_>,
@@ -118,14 +118,14 @@ pub struct ToldPart<'t> {
     pub told: Result<Vec<Told>, AllocError>,
 }
 
-/// How many accesses a part has, of so many.
+// How many accesses a part has, of so many.
 fn part_len(accesses: usize) -> usize
     ensures { 0 < result }
 {
     (accesses / TOLD_PARTS).max(MIN_ACCESSES_OF_THREADS)
 }
 
-/// All accesses in parts, of which nothing is told.
+// All accesses in parts, of which nothing is told.
 fn parts_of<'t>(alloc: Global, places: &'t [Placed]) -> Result<Vec<ToldPart<'t>>, AllocError>
     ensures { IfOk result (λ parts. firsts_in parts.items ≡ places.now) }
 {
@@ -141,7 +141,7 @@ fn parts_of<'t>(alloc: Global, places: &'t [Placed]) -> Result<Vec<ToldPart<'t>>
     Ok(parts)
 }
 
-/// Has threads tell what the accesses of each part ask.
+// Has threads tell what the accesses of each part ask.
 fn tell_parts(
     rt: &(impl Threads + Sync),
     alloc: Global,
@@ -174,7 +174,7 @@ fn tell_parts(
     );
 }
 
-/// How much all parts tell, for the room that it takes.
+// How much all parts tell, for the room that it takes.
 fn told_count(parts: &[ToldPart<'_>]) -> usize {
     let mut count: usize = 0;
     for part in parts {
@@ -185,7 +185,7 @@ fn told_count(parts: &[ToldPart<'_>]) -> usize {
     count
 }
 
-/// What all parts tell, one part after the other.
+// What all parts tell, one part after the other.
 fn joined(alloc: Global, parts: Vec<ToldPart<'_>>) -> Result<Vec<Told>, AllocError>
     ensures { IfOk result (λ told. (paths : List Path) (reasons : List Reason)
         (places : List Placed) → All (IsPartTold paths reasons places) parts.entry.items

@@ -9,7 +9,7 @@ use prog_tree::Sequence;
 use robust_cert::{Chain, Reason};
 use std::alloc::{AllocError, Global};
 
-/// A chain as a certificate has it.
+// A chain as a certificate has it.
 fn copy_of(alloc: Global, chain: &conflict_pairs::Chain) -> Result<Chain, AllocError>
     requires { TightFits chain.now }
     ensures { IfOk result (λ copy. copy ≡ chain.now) }
@@ -32,8 +32,8 @@ fn copies_of(alloc: Global, chains: &[conflict_pairs::Chain]) -> Result<Sequence
     Ok(Sequence::from_vec(copies))
 }
 
-/// The reason that a verdict gives. An exposed question has no entry, so one reason that is never
-/// told stands for those of all exposed verdicts.
+// The reason that a verdict gives. An exposed question has no entry, so one reason that is never
+// told stands for those of all exposed verdicts.
 fn reason_of(alloc: Global, verdict: &Verdict) -> Result<Reason, AllocError>
     requires { VerdictFits verdict.now }
     ensures { IfOk result (λ reason. reason ≡ reason_of verdict.now) }
@@ -71,7 +71,7 @@ fn are_same_chains(chains: &[Chain], others: &[conflict_pairs::Chain]) -> bool
     true
 }
 
-/// Whether a reason is the one that a verdict gives.
+// Whether a reason is the one that a verdict gives.
 fn is_given(reason: &Reason, verdict: &Verdict) -> bool
     ensures { IsTrue result → reason.now ≡ reason_of verdict.now }
 {
@@ -105,7 +105,7 @@ fn is_given(reason: &Reason, verdict: &Verdict) -> bool
     }
 }
 
-/// Makes the reasons that verdicts give.
+// Makes the reasons that verdicts give.
 #[derive(Drop)]
 struct Reasoning;
 

@@ -100,8 +100,8 @@ abbrev pub StopsRepair : (promote : Bool) → DraftTree → List Pair → ℕ �
 StopsRepair true = StopsPromotion
 StopsRepair false = StopsMaterialising
 
--- the set's plan, carried out: a set without a dangerous structure, which asks as many questions, and whose programs mean
--- the same
+-- the set's plan, carried out: a set without a dangerous structure,
+-- which asks as many questions, and whose programs mean the same
 pub record IsRepaired (promote : Bool) (set repaired : DraftTree) : Type 0 where
   pub few : AsksFew set
   pub plan : List Pair

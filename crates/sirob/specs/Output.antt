@@ -46,7 +46,8 @@ pub record ShowsRobust (set : DraftTree) (part : List ℕ) : Type 0 where
   pub read : IsTextOf certificate part
   pub accepted : IsAccepted (paths_of set) certificate
 
--- the text of a certificate of the set and a line feed, which is read as this certificate; and it is accepted for the set
+-- the text of a certificate of the set and a line feed, which is read as this certificate;
+-- and it is accepted for the set
 pub record GivesCertificate (set : DraftTree) (written : List ℕ) (ended : Status) : Type 0 where
   pub certificate : Certificate
   pub accepted : IsAccepted (paths_of set) certificate

@@ -11,7 +11,7 @@ use prog_check::Kind;
 use std::alloc::{AllocError, Global};
 use std::marker::Model;
 
-/// Whether an access of this kind changes rows that others may ask about.
+// Whether an access of this kind changes rows that others may ask about.
 fn changes(kind: Kind) -> bool
     ensures { result ≡ changes kind }
 {
@@ -31,7 +31,7 @@ fn changers_among(alloc: Global, places: &[Placed]) -> Result<Vec<Placed>, Alloc
     Ok(changers)
 }
 
-/// How many accesses are of tables below this one.
+// How many accesses are of tables below this one.
 fn count_below(places: &[Placed], table: usize) -> usize
     ensures bound { result ≤ length places.now }
     ensures cut { AreByTable places.now → IsPartitionPoint (λ p. nat_lt p.access.table table ≡ true)
@@ -40,7 +40,7 @@ fn count_below(places: &[Placed], table: usize) -> usize
     places.partition_point(|place| place.access.table < table)
 }
 
-/// How many accesses are of this table or of tables below it.
+// How many accesses are of this table or of tables below it.
 fn count_through(places: &[Placed], table: usize) -> usize
     ensures bound { result ≤ length places.now }
     ensures cut { AreByTable places.now → IsPartitionPoint (λ p. nat_le p.access.table table ≡ true)
@@ -49,7 +49,7 @@ fn count_through(places: &[Placed], table: usize) -> usize
     places.partition_point(|place| place.access.table <= table)
 }
 
-/// Where the accesses of a table begin, and where they end.
+// Where the accesses of a table begin, and where they end.
 fn bounds(places: &[Placed], table: usize) -> (usize, usize)
     requires { AreByTable places.now }
     ensures rises { result.0 ≤ result.1 }

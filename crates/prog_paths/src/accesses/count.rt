@@ -11,7 +11,7 @@ use crate::accesses::tally::{AccessTally, sum};
 use crate::limits::MAX_QUESTIONS;
 use prog_check::{Access, Path};
 
-/// The tally of a table with the accesses of one more node.
+// The tally of a table with the accesses of one more node.
 fn with_node(table: usize, accesses: &[Access], before: AccessTally) -> AccessTally
     ensures { (node : ℕ) (places : List Placed) → All (λ p. p.node < node) places
         → IsTally table places before
@@ -26,7 +26,7 @@ fn with_node(table: usize, accesses: &[Access], before: AccessTally) -> AccessTa
     tally
 }
 
-/// The tally of a table with the accesses of all nodes.
+// The tally of a table with the accesses of all nodes.
 fn tally_of(table: usize, paths: &[Path]) -> AccessTally
     ensures tally { IsTally table (all_from 0 paths.now) result }
     ensures fits { table < 2 ^ 64 }
@@ -56,7 +56,7 @@ fn is_before(next: Option<usize>, table: usize) -> bool
     }
 }
 
-/// The least table behind the last one that one more node uses, or the one that was found.
+// The least table behind the last one that one more node uses, or the one that was found.
 fn next_in(accesses: &[Access], last: Option<usize>, found: Option<usize>) -> Option<usize>
     ensures rises { NextIsGreater last found → NextIsGreater last result }
     ensures keeps { (table : ℕ) → is_before found table ≡ not (is_behind last table)
@@ -73,7 +73,7 @@ fn next_in(accesses: &[Access], last: Option<usize>, found: Option<usize>) -> Op
     next
 }
 
-/// The least table behind the last one that the paths use.
+// The least table behind the last one that the paths use.
 fn next_table(paths: &[Path], last: Option<usize>) -> Option<usize>
     ensures rises { NextIsGreater last result }
     ensures all { All (λ p. is_before result p.access.table ≡ not (is_behind last p.access.table))

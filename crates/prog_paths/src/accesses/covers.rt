@@ -9,14 +9,14 @@ use crate::accesses::questions::may_cover;
 use order_facts::Closed;
 use prog_check::{Access, Column, Term};
 
-/// Whether the facts put the two terms at most each other.
+// Whether the facts put the two terms at most each other.
 fn is_equal(closed: &Closed, mine: Term, theirs: Term) -> bool
     ensures { IsTrue result ↔ AllEqual closed.now ((mine, theirs) ∷ []) }
 {
     closed.forces_equal(mine_node(mine), their_node(theirs))
 }
 
-/// Whether they do for the terms of the second columns, where there are such.
+// Whether they do for the terms of the second columns, where there are such.
 fn is_equal_second(closed: &Closed, mine: Option<Column>, theirs: Option<Column>) -> bool
     ensures { IsTrue result ↔ AllEqual closed.now (second_terms mine theirs) }
 {
@@ -26,7 +26,7 @@ fn is_equal_second(closed: &Closed, mine: Option<Column>, theirs: Option<Column>
     }
 }
 
-/// Whether both change or keep, at one cell by the facts.
+// Whether both change or keep, at one cell by the facts.
 fn covers(closed: &Closed, mine: &Access, theirs: &Access) -> bool
     ensures { IsTrue result ↔ CoversBy closed.now mine.now theirs.now }
 {
@@ -37,8 +37,8 @@ fn covers(closed: &Closed, mine: &Access, theirs: &Access) -> bool
         && is_equal_second(closed, mine.second, theirs.second)
 }
 
-/// The number of the first access that covers with one of the first path. None is looked at where
-/// that one may not cover.
+// The number of the first access that covers with one of the first path. None is looked at where
+// that one may not cover.
 fn first_covering(closed: &Closed, mine: &Access, theirs: &[Access]) -> Option<usize>
     ensures some { IfSome result (λ t. (of_theirs : Access)
         × (slice_get theirs.now t ≡ Some of_theirs) × CoversBy closed.now mine.now of_theirs) }

@@ -32,7 +32,7 @@ pub fn their_node(term: Term) -> Node
     }
 }
 
-/// The facts of one column.
+// The facts of one column.
 fn column_facts(mine: Column, theirs: Column) -> (Fact, Fact)
     ensures { result.0 ∷ result.1 ∷ [] ≡ column_facts mine theirs }
 {
@@ -70,7 +70,7 @@ pub fn second_terms(mine: Option<Column>, theirs: Option<Column>) -> Option<(Ter
     }
 }
 
-/// Two facts for each column.
+// Two facts for each column.
 #[derive(Drop)]
 enum ColumnFacts {
     OneColumn([Fact; 2]),
@@ -104,7 +104,7 @@ impl QuestionFacts {
     }
 }
 
-/// The facts of two columns.
+// The facts of two columns.
 fn of_both(first: (Fact, Fact), second: (Fact, Fact)) -> QuestionFacts
     ensures { result ≡ first.0 ∷ first.1 ∷ second.0 ∷ second.1 ∷ [] }
 {

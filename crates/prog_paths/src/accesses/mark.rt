@@ -50,7 +50,7 @@ pub fn mark_by(question: Question, meets: bool, exposed: bool) -> Mark
     }
 }
 
-/// Enters the edges of a mark.
+// Enters the edges of a mark.
 #[inline]
 fn enter_edges(edges: &mut Square, mark: Mark)
     ensures { Enters edges.old edges.new (λ x y. gives_edge x y mark) }
@@ -65,7 +65,7 @@ fn enter_edges(edges: &mut Square, mark: Mark)
     }
 }
 
-/// Enters the vulnerable edge of a mark.
+// Enters the vulnerable edge of a mark.
 #[inline]
 fn enter_vulnerable(vulnerable: &mut Square, mark: Mark)
     ensures { Enters vulnerable.old vulnerable.new (λ x y. gives_vulnerable x y mark) }

@@ -13,7 +13,7 @@ pub struct Placed {
     pub access: Access,
 }
 
-/// Adds the accesses of a node.
+// Adds the accesses of a node.
 fn push_node(places: &mut Vec<Placed>, node: usize, accesses: &[Access]) -> Result<(), AllocError>
     ensures { OnOk result
         (places.new.items ≡ places.old.items ++ placed_from node 0 accesses.now) }
@@ -39,7 +39,7 @@ pub fn all_places(alloc: Global, paths: &[Path]) -> Result<Vec<Placed>, AllocErr
     Ok(places)
 }
 
-/// The accesses of a path, where it is one of a program.
+// The accesses of a path, where it is one of a program.
 fn accesses_by(path: &Path, program: usize) -> &[Access]
     ensures { result.now ≡ accesses_by program path.now }
 {

@@ -49,7 +49,7 @@ pub fn both_write(mine: Kind, theirs: Kind) -> bool
     matches!(mine, Kind::Writes) && matches!(theirs, Kind::Writes)
 }
 
-/// Whether the second changes what the first depends on.
+// Whether the second changes what the first depends on.
 fn kinds_depend(mine: Kind, theirs: Kind) -> bool
     ensures { result ≡ kinds_depend mine theirs }
 {

@@ -26,8 +26,8 @@ fn place_of(params: &[Name], name: &Name) -> Option<usize>
     params.iter().position(|param| name.is_same(param))
 }
 
-/// A lone number and a lone parameter are what they are. Anything else is an unknown of this
-/// number.
+// A lone number and a lone parameter are what they are. Anything else is an unknown of this
+// number.
 fn term(params: &[Name], unknown: usize, expr: &Expr) -> Term
     ensures { result ≡ term_of params.now unknown (expr_tree expr.now) }
 {

@@ -30,7 +30,7 @@ pub fn kinds(grow: bool, stmt: &Stmt) -> &'static [Kind]
     }
 }
 
-/// The number of the table of a name, and whether it grows.
+// The number of the table of a name, and whether it grows.
 fn table_at(set: &ProgramSet, name: &Name) -> (usize, bool)
     ensures number { result.0 ≡ number_of set.now.tables.items name.now }
     ensures grow { result.1 ≡ grows (declaration set.now.tables.items name.now) }

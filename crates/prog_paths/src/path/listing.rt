@@ -31,7 +31,7 @@ fn push_paths(number: usize, trails: Vec<Trail>, paths: &mut Vec<Path>) -> Resul
     Ok(())
 }
 
-/// Adds the committing paths of a program of this number.
+// Adds the committing paths of a program of this number.
 fn add_paths(
     alloc: Global,
     set: &ProgramSet,

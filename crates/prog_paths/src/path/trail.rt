@@ -48,7 +48,7 @@ impl Trail {
     }
 }
 
-/// Adds an access of each kind.
+// Adds an access of each kind.
 fn add_accesses(
     accesses: &mut Accesses,
     table: usize,

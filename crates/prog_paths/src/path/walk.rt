@@ -12,7 +12,7 @@ use prog_check::{MAX_STATEMENTS, ProgramSet};
 use prog_tree::{Block, Name, Stmt};
 use std::alloc::{AllocError, Global};
 
-/// How many statements a statement is, with those of its blocks, up to the most that are counted.
+// How many statements a statement is, with those of its blocks, up to the most that are counted.
 #[cycle(sizes)]
 fn count_own(stmt: &Stmt) -> usize
     ensures few { result ≤ MAX_COUNTED }
@@ -42,7 +42,7 @@ pub fn count_statements(block: &Block) -> usize
     count
 }
 
-/// Whether some way leads on behind a statement.
+// Whether some way leads on behind a statement.
 #[cycle(commits)]
 fn lets_on(stmt: &Stmt) -> bool
     ensures { result ≡ commits (alone (stmt_tree stmt.now)) }
@@ -58,7 +58,7 @@ fn lets_on(stmt: &Stmt) -> bool
     }
 }
 
-/// Whether some way through a block meets no `abort;`.
+// Whether some way through a block meets no `abort;`.
 #[cycle(commits)]
 fn commits(block: &Block) -> bool
     ensures { result ≡ commits (block_tree block.now) }
@@ -71,7 +71,7 @@ fn commits(block: &Block) -> bool
     true
 }
 
-/// Goes past a statement of this number in the body of an `each`.
+// Goes past a statement of this number in the body of an `each`.
 #[cycle(bodies)]
 fn pass_inside(
     set: &ProgramSet,
@@ -107,7 +107,7 @@ fn pass_inside(
     Ok(())
 }
 
-/// Goes past the body of an `each`, whose first statement has this number.
+// Goes past the body of an `each`, whose first statement has this number.
 #[cycle(bodies)]
 fn pass_body(
     set: &ProgramSet,
@@ -129,7 +129,7 @@ fn pass_body(
     Ok(())
 }
 
-/// Goes past a statement of this number that isn't a branch, and past its body if it has one.
+// Goes past a statement of this number that isn't a branch, and past its body if it has one.
 fn pass_whole(
     set: &ProgramSet,
     params: &[Name],
@@ -151,7 +151,7 @@ fn pass_whole(
     Ok(())
 }
 
-/// Takes all trails past a statement of this number that isn't a branch.
+// Takes all trails past a statement of this number that isn't a branch.
 fn pass_all(
     alloc: Global,
     set: &ProgramSet,
@@ -174,7 +174,7 @@ fn pass_all(
     Ok(passed)
 }
 
-/// All trails behind a statement of this number.
+// All trails behind a statement of this number.
 #[cycle(walk)]
 fn walk_stmt(
     alloc: Global,

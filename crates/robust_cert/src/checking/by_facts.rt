@@ -15,7 +15,7 @@ pub struct AskedPair<'a> {
     pub theirs: &'a Access,
 }
 
-/// Whether the nodes are a chain of the question's facts.
+// Whether the nodes are a chain of the question's facts.
 fn is_chain_of(asked: AskedPair<'_>, chain: &[Node]) -> bool
     ensures { IsTrue result ↔ IsChain (facts_between asked.entry) chain.now }
 {
@@ -23,7 +23,7 @@ fn is_chain_of(asked: AskedPair<'_>, chain: &[Node]) -> bool
     is_chain(facts.as_slice(), chain)
 }
 
-/// The first node and the last.
+// The first node and the last.
 fn ends(chain: &[Node]) -> Option<(Node, Node)>
     ensures some { IfSome result (λ ends. RunsBetween ends.0 ends.1 chain.now) }
     ensures none { IfNone result (length chain.now ≡ 0) }

@@ -33,7 +33,7 @@ fn check_size(paths: &[Path], certificate: &Certificate) -> Result<(), CertFault
     Ok(())
 }
 
-/// Whether the levels rise over what the entries leave, which all hold.
+// Whether the levels rise over what the entries leave, which all hold.
 fn check_left(alloc: Global, paths: &[Path], certificate: &Certificate) -> Result<(), CertFault>
     requires { StandTo paths.now certificate.now (length certificate.now.entries) }
     ensures accepted { OnOk result (IsAccepted paths.now certificate.now) }

@@ -12,7 +12,7 @@ use crate::entries::Entries;
 use crate::fault::CertFault;
 use prog_check::Path;
 
-/// Whether the entry of a number stands behind the one before it.
+// Whether the entry of a number stands behind the one before it.
 fn is_behind_last(entries: &Entries, k: usize) -> bool
     requires { k < length entries.now }
     ensures { (e : Entry) → slice_get entries.now k ≡ Some e
@@ -26,7 +26,7 @@ fn is_behind_last(entries: &Entries, k: usize) -> bool
     last.is_before(this)
 }
 
-/// Whether the entry of a number is about a question, stands behind the last, and says what holds.
+// Whether the entry of a number is about a question, stands behind the last, and says what holds.
 fn check_entry(paths: &[Path], entries: &Entries, k: usize) -> Result<(), CertFault>
     requires { k < length entries.now }
     ensures stands { OnOk result (EntryStands paths.now entries.now k) }

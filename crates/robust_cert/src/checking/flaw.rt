@@ -59,7 +59,7 @@ pub fn asked_pair(paths: &[Path], question: AskedNumbers) -> Option<AskedPair<'_
     }
 }
 
-/// Whether a chain runs from a term of the first access to one of the second, and another back.
+// Whether a chain runs from a term of the first access to one of the second, and another back.
 fn run_both(asked: AskedPair<'_>, mine: Term, theirs: Term, there: &[Node], back: &[Node]) -> bool
     ensures { IsTrue result
         ↔ (Runs (facts_between asked.entry) (mine_node mine) (their_node theirs) there.now
@@ -83,7 +83,7 @@ fn show_second(asked: AskedPair<'_>, terms: Option<(Term, Term)>, chains: &[Chai
     }
 }
 
-/// Whether the chains show the two cells equal, column by column.
+// Whether the chains show the two cells equal, column by column.
 fn show_equal(asked: AskedPair<'_>, mine: &Access, theirs: &Access, chains: &[Chain]) -> bool
     ensures { IsTrue result
         ↔ ShowEqual (facts_between asked.entry) (key_pairs mine.now theirs.now) chains.now }
@@ -110,7 +110,7 @@ fn column_count(mine: &Access, theirs: &Access) -> usize
     }
 }
 
-/// The two accesses that a cover names, if they may cover the question and have so many chains.
+// The two accesses that a cover names, if they may cover the question and have so many chains.
 fn covers_with<'a>(
     paths: &'a [Path],
     question: AskedNumbers,

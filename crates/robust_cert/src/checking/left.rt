@@ -13,7 +13,7 @@ use prog_check::Path;
 use prog_paths::{Changers, EdgeTables, Placed, all_places, asks, question_between};
 use std::alloc::{AllocError, Global};
 
-/// Enters what an access asks of another, where it asks.
+// Enters what an access asks of another, where it asks.
 fn enter_question(
     left: &mut EdgeTables,
     entries: &Entries,
@@ -34,7 +34,7 @@ fn enter_question(
     behind
 }
 
-/// Enters what one access asks of each.
+// Enters what one access asks of each.
 fn enter_asked(
     left: &mut EdgeTables,
     entries: &Entries,
@@ -52,7 +52,7 @@ fn enter_asked(
     at
 }
 
-/// Enters what each asks of each. Only the changers of its table are looked through.
+// Enters what each asks of each. Only the changers of its table are looked through.
 fn enter_all(
     alloc: Global,
     left: &mut EdgeTables,

@@ -25,7 +25,7 @@ pub struct Triple {
     pub z: usize,
 }
 
-/// The least node to which the level falls from `x`.
+// The least node to which the level falls from `x`.
 fn first_fall(edges: &Square, levels: &[u32], x: usize) -> Option<usize>
     requires x { x < edges.now.size }
     requires size { length levels.now ≡ edges.now.size }
@@ -42,7 +42,7 @@ fn first_fall(edges: &Square, levels: &[u32], x: usize) -> Option<usize>
     None
 }
 
-/// The least edge along which the level falls.
+// The least edge along which the level falls.
 fn least_fall(edges: &Square, levels: &[u32]) -> Option<Edge>
     requires { length levels.now ≡ edges.now.size }
     ensures found { IfSome result
@@ -57,7 +57,7 @@ fn least_fall(edges: &Square, levels: &[u32]) -> Option<Edge>
     None
 }
 
-/// The least node to which the level doesn't rise from `x` by way of `y`.
+// The least node to which the level doesn't rise from `x` by way of `y`.
 fn first_stay(vulnerable: &Square, levels: &[u32], x: usize, y: usize) -> Option<usize>
     requires x { x < vulnerable.now.size }
     requires y { y < vulnerable.now.size }
@@ -77,7 +77,7 @@ fn first_stay(vulnerable: &Square, levels: &[u32], x: usize, y: usize) -> Option
     None
 }
 
-/// The lowest level that a vulnerable edge leads to from `y`.
+// The lowest level that a vulnerable edge leads to from `y`.
 fn lowest_behind(vulnerable: &Square, levels: &[u32], y: usize) -> Option<u32>
     requires y { y < vulnerable.now.size }
     requires size { length levels.now ≡ vulnerable.now.size }
@@ -95,8 +95,8 @@ fn lowest_behind(vulnerable: &Square, levels: &[u32], y: usize) -> Option<u32>
     lowest
 }
 
-/// The least node before `end` from which the level doesn't rise by way of `y`. No other node is
-/// asked for but one of the lowest level behind `y`.
+// The least node before `end` from which the level doesn't rise by way of `y`. No other node is
+// asked for but one of the lowest level behind `y`.
 fn first_stay_by(vulnerable: &Square, levels: &[u32], y: usize, end: usize) -> Option<usize>
     requires y { y < vulnerable.now.size }
     requires end { end ≤ vulnerable.now.size }
@@ -114,8 +114,8 @@ fn first_stay_by(vulnerable: &Square, levels: &[u32], y: usize, end: usize) -> O
     None
 }
 
-/// The first of the least two vulnerable edges over which the level doesn't rise. A later node in
-/// their middle counts only where they begin at an earlier one.
+// The first of the least two vulnerable edges over which the level doesn't rise. A later node in
+// their middle counts only where they begin at an earlier one.
 fn least_first_edge(vulnerable: &Square, levels: &[u32]) -> Option<Edge>
     requires { length levels.now ≡ vulnerable.now.size }
     ensures found { IfSome result (λ pair. IsLeastFirstEdge vulnerable.now levels.now pair) }
@@ -132,7 +132,7 @@ fn least_first_edge(vulnerable: &Square, levels: &[u32]) -> Option<Edge>
     least
 }
 
-/// The least two vulnerable edges over which the level doesn't rise.
+// The least two vulnerable edges over which the level doesn't rise.
 fn least_stay(vulnerable: &Square, levels: &[u32]) -> Option<Triple>
     requires { length levels.now ≡ vulnerable.now.size }
     ensures found { IfSome result

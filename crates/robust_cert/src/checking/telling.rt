@@ -29,7 +29,7 @@ fn told_by(reason: &Reason) -> Telling
     }
 }
 
-/// The first entry from the cursor on that stands not before the question.
+// The first entry from the cursor on that stands not before the question.
 fn cursor_at(entries: &Entries, cursor: usize, question: AskedNumbers) -> usize
     requires { IsBehind entries.now cursor (question_with question) }
     ensures passed { IsBehind entries.now result (question_with question) }

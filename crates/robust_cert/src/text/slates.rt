@@ -35,7 +35,7 @@ pub struct Slate<'c> {
 }
 
 impl<'c> Slate<'c> {
-    /// A slate with so much room, without an entry.
+    // A slate with so much room, without an entry.
     fn of(alloc: Global, bytes: usize) -> Result<Self, AllocError>
         ensures { IfOk result (λ slate. bytes ≤ string_capacity slate.text) }
     {
@@ -46,8 +46,8 @@ impl<'c> Slate<'c> {
         })
     }
 
-    /// Takes the first of these entries, as many as are sure to have room, and gives those behind
-    /// them.
+    // Takes the first of these entries, as many as are sure to have room, and gives those behind
+    // them.
     fn take(&mut self, told: &'c [Told], reasons: &[Reason], tails: &[String]) -> &'c [Told]
         requires { CanTake reasons.now tails.now told.now self.old }
         ensures all { self.new.entries.now ++ result.now ≡ told.now }
@@ -64,7 +64,7 @@ impl<'c> Slate<'c> {
         behind
     }
 
-    /// Writes the texts of its entries, each behind a comma, where others stood.
+    // Writes the texts of its entries, each behind a comma, where others stood.
     fn write(&mut self, reasons: &[Reason], tails: &[String], middles: &Middles)
         requires { CanWrite reasons.now tails.now self.old }
         ensures text { string_bytes self.new.text
@@ -131,7 +131,7 @@ impl<'c> Slates<'c> {
         self.given = next + 1;
     }
 
-    /// Deals out the next entries, and gives those behind them.
+    // Deals out the next entries, and gives those behind them.
     fn deal_out(&mut self, told: &'c [Told], reasons: &[Reason], tails: &[String]) -> &'c [Told]
         requires { CanDealOut reasons.now tails.now told.now self.old }
         ensures all { slates_entries self.new.all.items ++ result.now ≡ told.now }

@@ -17,7 +17,7 @@ pub struct PartialPlan {
     pub left: Vec<ProgramTriple>,
 }
 
-/// Puts a pair into the plan where a structure is left without it.
+// Puts a pair into the plan where a structure is left without it.
 fn take_turn(alloc: Global, partial: PartialPlan, turn: Pair) -> Result<PartialPlan, AllocError>
     ensures { IfOk result (λ next. (nodes : List Path)
         → IsPartialPlan nodes partial.plan.items partial.left.items (IsBeforeTurn turn)
@@ -32,7 +32,7 @@ fn take_turn(alloc: Global, partial: PartialPlan, turn: Pair) -> Result<PartialP
     Ok(PartialPlan { plan, left })
 }
 
-/// Takes the turns of the pairs from a program.
+// Takes the turns of the pairs from a program.
 fn take_turns(
     alloc: Global,
     partial: PartialPlan,

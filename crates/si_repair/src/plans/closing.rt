@@ -37,7 +37,7 @@ impl ProgramTriple {
     }
 }
 
-/// Adds the triples that close a structure behind a pair of programs.
+// Adds the triples that close a structure behind a pair of programs.
 fn push_behind(
     graph: &Graph<'_>,
     nodes: &ProgramNodes<'_>,
@@ -65,7 +65,7 @@ fn push_behind(
     Ok(())
 }
 
-/// Adds the triples that close a structure and begin with a program.
+// Adds the triples that close a structure and begin with a program.
 fn push_from(
     graph: &Graph<'_>,
     nodes: &ProgramNodes<'_>,

@@ -7,7 +7,7 @@ use prog_check::Path;
 use std::alloc::{AllocError, Global};
 use std::marker::Model;
 
-/// The nodes that are paths of a program.
+// The nodes that are paths of a program.
 fn nodes_of(alloc: Global, paths: &[Path], program: usize) -> Result<Vec<usize>, AllocError>
     ensures { IfOk result (λ nodes. AreNodesOf paths.now program nodes.items) }
 {
@@ -72,7 +72,7 @@ impl<'a> ProgramNodes<'a> {
     }
 }
 
-/// Whether one of the nodes ends a dangerous structure behind `x` and `y`.
+// Whether one of the nodes ends a dangerous structure behind `x` and `y`.
 fn ends_in(graph: &Graph<'_>, x: usize, y: usize, thirds: &[usize]) -> bool
     requires x { x < length graph.now }
     requires y { y < length graph.now }
@@ -90,7 +90,7 @@ fn ends_in(graph: &Graph<'_>, x: usize, y: usize, thirds: &[usize]) -> bool
     false
 }
 
-/// Whether a dangerous structure begins with `x` and has its other nodes among these.
+// Whether a dangerous structure begins with `x` and has its other nodes among these.
 fn goes_on_in(graph: &Graph<'_>, x: usize, seconds: &[usize], thirds: &[usize]) -> bool
     requires x { x < length graph.now }
     requires seconds { All (λ y. y < length graph.now) seconds.now }

@@ -7,7 +7,7 @@ use crate::plans::closing::ProgramTriple;
 use repair_laws::Pair;
 use std::alloc::{AllocError, Global};
 
-/// Whether the first pair stands before the second.
+// Whether the first pair stands before the second.
 fn is_before(pair: Pair, other: Pair) -> bool
     ensures { IsTrue result ↔ IsPairBefore pair other }
 {
@@ -20,7 +20,7 @@ fn is_same(pair: Pair, other: Pair) -> bool
     pair.from == other.from && pair.to == other.to
 }
 
-/// Whether both pairs of a triple stand at this one or before it.
+// Whether both pairs of a triple stand at this one or before it.
 fn is_at_turn(triple: ProgramTriple, turn: Pair) -> bool
     ensures { IsTrue result ↔ IsAtTurn turn triple }
 {

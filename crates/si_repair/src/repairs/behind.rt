@@ -17,21 +17,21 @@ use prog_paths::count_statements;
 use prog_tree::{Block, Draft, Key, Name, Program, Stmt, copy_names, copy_tables};
 use std::alloc::{AllocError, Global};
 
-/// A statement, and the number of the next one.
+// A statement, and the number of the next one.
 #[derive(Drop)]
 struct NumberedStmt {
     stmt: Stmt,
     next: usize,
 }
 
-/// A block, and the number of the next statement.
+// A block, and the number of the next statement.
 #[derive(Drop)]
 struct NumberedBlock {
     block: Block,
     next: usize,
 }
 
-/// The statement that keeps a cell.
+// The statement that keeps a cell.
 fn keep_cell(alloc: Global, table: &Name, key: &Key) -> Result<Stmt, AllocError>
     ensures { IfOk result
         (λ keep. stmt_tree keep ≡ Plain (s.Keep table.now (key_tree key.now))) }
@@ -42,7 +42,7 @@ fn keep_cell(alloc: Global, table: &Name, key: &Key) -> Result<Stmt, AllocError>
     })
 }
 
-/// The keep of the cell that a statement reads, if it reads one.
+// The keep of the cell that a statement reads, if it reads one.
 fn keep_of(alloc: Global, stmt: &Stmt) -> Result<Option<Stmt>, AllocError>
     ensures { IfOk result (λ keep. map stmt_tree (option_items keep)
         ≡ map Plain (keep_of (cell_read_by (stmt_tree stmt.now)))) }
@@ -65,7 +65,7 @@ fn keep_of(alloc: Global, stmt: &Stmt) -> Result<Option<Stmt>, AllocError>
     }
 }
 
-/// What stands behind a statement: the keep of its cell where it is marked.
+// What stands behind a statement: the keep of its cell where it is marked.
 fn keep_behind(alloc: Global, marked: bool, stmt: &Stmt) -> Result<Option<Stmt>, AllocError>
     ensures { IfOk result (λ keep. map stmt_tree (option_items keep)
         ≡ map Plain (if marked then keep_of (cell_read_by (stmt_tree stmt.now)) else [])) }
@@ -77,7 +77,7 @@ fn keep_behind(alloc: Global, marked: bool, stmt: &Stmt) -> Result<Option<Stmt>,
     }
 }
 
-/// Adds a statement, where there is one.
+// Adds a statement, where there is one.
 fn push_some(stmts: &mut Vec<Stmt>, stmt: Option<Stmt>) -> Result<(), AllocError>
     ensures { OnOk result (stmts.new.items ≡ stmts.old.items ++ option_items stmt) }
 {
@@ -87,7 +87,7 @@ fn push_some(stmts: &mut Vec<Stmt>, stmt: Option<Stmt>) -> Result<(), AllocError
     Ok(())
 }
 
-/// A statement of this number with keeps in the blocks of a branch; none in the body of an `each`.
+// A statement of this number with keeps in the blocks of a branch; none in the body of an `each`.
 #[cycle(keeps)]
 fn keeps_in_stmt(
     alloc: Global,
@@ -129,7 +129,7 @@ fn keeps_in_stmt(
     }
 }
 
-/// A block, whose first statement has this number, with keeps behind those that are marked.
+// A block, whose first statement has this number, with keeps behind those that are marked.
 #[cycle(keeps)]
 fn keeps_in_block(
     alloc: Global,
@@ -159,7 +159,7 @@ fn keeps_in_block(
     })
 }
 
-/// The program of this number with keeps.
+// The program of this number with keeps.
 fn promoted_program(
     alloc: Global,
     marks: &[MarkedStatement],
@@ -178,7 +178,7 @@ fn promoted_program(
     })
 }
 
-/// All programs with keeps.
+// All programs with keeps.
 fn promoted_programs(
     alloc: Global,
     marks: &[MarkedStatement],

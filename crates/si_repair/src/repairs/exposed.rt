@@ -30,7 +30,7 @@ pub fn places_of_pair(alloc: Global, paths: &[Path], pair: Pair) -> Result<PairP
     Ok(PairPlaces { reads, changes })
 }
 
-/// Whether both use one table, and the first may miss what the second changes.
+// Whether both use one table, and the first may miss what the second changes.
 fn may_miss(first: &Placed, second: &Placed) -> bool
     ensures { IsTrue result ↔ MayMiss first.now second.now }
 {
@@ -38,7 +38,7 @@ fn may_miss(first: &Placed, second: &Placed) -> bool
         && asks_read_write(first.access.kind, second.access.kind)
 }
 
-/// Whether what an access may miss of another is exposed.
+// Whether what an access may miss of another is exposed.
 fn exposed_between(
     alloc: Global,
     paths: &[Path],
@@ -57,7 +57,7 @@ fn exposed_between(
     is_exposed_question(alloc, x, first.number, y, second.number)
 }
 
-/// Whether the first may miss what the second changes, and no two accesses cover them.
+// Whether the first may miss what the second changes, and no two accesses cover them.
 fn is_exposed(
     alloc: Global,
     paths: &[Path],

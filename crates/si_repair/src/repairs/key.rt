@@ -14,7 +14,7 @@ use prog_paths::{Question, closed_facts};
 use repair_laws::Pair;
 use std::alloc::{AllocError, Global};
 
-/// What the facts of a question entail.
+// What the facts of a question entail.
 fn facts_of(alloc: Global, paths: &[Path], question: &Question) -> Result<Closed, AllocError>
     requires { IsMissed paths.now question.now }
     ensures { IfOk result (λ closed. AreFactsOf paths.now question.now closed) }
@@ -24,14 +24,14 @@ fn facts_of(alloc: Global, paths: &[Path], question: &Question) -> Result<Closed
     closed_facts(alloc, mine, theirs)
 }
 
-/// Whether the facts put two parameters at most each other.
+// Whether the facts put two parameters at most each other.
 fn puts_equal(closed: &Closed, both: (usize, usize)) -> bool
     ensures { IsTrue result ↔ PutEqual closed.now both }
 {
     closed.forces_equal(Node::Mine(both.0), Node::Theirs(both.1))
 }
 
-/// Those of some pairs of parameters that the facts put equal.
+// Those of some pairs of parameters that the facts put equal.
 fn left_by(
     alloc: Global,
     closed: &Closed,
@@ -48,7 +48,7 @@ fn left_by(
     Ok(left)
 }
 
-/// Adds one parameter with each of so many.
+// Adds one parameter with each of so many.
 fn push_pairs(
     pairs: &mut Vec<(usize, usize)>,
     first: usize,
@@ -62,7 +62,7 @@ fn push_pairs(
     Ok(())
 }
 
-/// Each of so many parameters with each of so many others, in order.
+// Each of so many parameters with each of so many others, in order.
 fn all_pairs(
     alloc: Global,
     first_count: usize,
@@ -77,7 +77,7 @@ fn all_pairs(
     Ok(pairs)
 }
 
-/// Those of some pairs of parameters that each of the questions forces equal, wherever it meets.
+// Those of some pairs of parameters that each of the questions forces equal, wherever it meets.
 fn left_of(
     alloc: Global,
     paths: &[Path],

@@ -29,7 +29,7 @@ pub fn is_marked(marks: &[MarkedStatement], program: usize, number: usize) -> bo
     marks.iter().any(|mark| is_at(mark, program, number))
 }
 
-/// Adds a mark, unless it is there.
+// Adds a mark, unless it is there.
 fn push_mark(marks: &mut Vec<MarkedStatement>, mark: MarkedStatement) -> Result<(), AllocError>
     ensures { OnOk result ((program number : ℕ)
         → is_marked marks.new.items program number
@@ -42,7 +42,7 @@ fn push_mark(marks: &mut Vec<MarkedStatement>, mark: MarkedStatement) -> Result<
     Ok(())
 }
 
-/// The number of the statement that asks a question.
+// The number of the statement that asks a question.
 fn place_of(paths: &[Path], question: &Question) -> usize
     requires { HasRead paths.now question.now }
     ensures { result ≡ place_of paths.now question.now }

@@ -24,7 +24,7 @@ use prog_tree::Draft;
 use repair_laws::{NewTable, Pair, materialised_draft};
 use std::alloc::{AllocError, Global};
 
-/// How many parameters the program of a number has: none where there is no such program.
+// How many parameters the program of a number has: none where there is no such program.
 fn params_of(draft: &Draft, number: usize) -> usize
     ensures { result ≡ params_of (draft_tree draft.now) number }
 {
@@ -34,7 +34,7 @@ fn params_of(draft: &Draft, number: usize) -> usize
     }
 }
 
-/// Adds a pair with its own new name and its key.
+// Adds a pair with its own new name and its key.
 fn push_new_table(
     alloc: Global,
     set: &ProgramSet,
@@ -55,7 +55,7 @@ fn push_new_table(
     Ok(())
 }
 
-/// The pairs, each with its own new name and its key.
+// The pairs, each with its own new name and its key.
 fn new_tables(
     alloc: Global,
     set: &ProgramSet,
@@ -72,7 +72,7 @@ fn new_tables(
     Ok(made)
 }
 
-/// As many of the pairs as new tables fit, and one more, with which the set is too large.
+// As many of the pairs as new tables fit, and one more, with which the set is too large.
 fn pairs_to_meet<'a>(draft: &Draft, pairs: &'a [Pair]) -> &'a [Pair]
     ensures { result.now
         ≡ take (1 + (MAX_TABLES - length (draft_tree draft.now).tables)) pairs.now }
@@ -82,7 +82,7 @@ fn pairs_to_meet<'a>(draft: &Draft, pairs: &'a [Pair]) -> &'a [Pair]
     &pairs[..most]
 }
 
-/// The set with what the pairs make, or none where that breaks a limit.
+// The set with what the pairs make, or none where that breaks a limit.
 fn with_new_tables(
     alloc: Global,
     set: &ProgramSet,
@@ -100,7 +100,7 @@ fn with_new_tables(
     checked_set(alloc, whole)
 }
 
-/// New tables, of which the first ones are made.
+// New tables, of which the first ones are made.
 #[derive(Drop)]
 struct FirstNewTables<'a> {
     set: &'a ProgramSet,
@@ -118,14 +118,14 @@ impl<'a> Firsts for FirstNewTables<'a> {
     ghost is_refused = { λ firsts n. IsRefused (materialised_by (draft_tree firsts.set.now)
         (take n firsts.made.now)) };
 
-    /// Whether the set with what the first pairs make breaks no limit.
+    // Whether the set with what the first pairs make breaks no limit.
     fn fit(&self, alloc: Global, n: usize) -> Result<bool, AllocError> {
         let repaired = with_new_tables(alloc, self.set, &self.made[..n])?;
         Ok(repaired.is_some())
     }
 }
 
-/// The first of the pairs with which what they make is too large, where with all of them it is.
+// The first of the pairs with which what they make is too large, where with all of them it is.
 fn first_stop(
     alloc: Global,
     set: &ProgramSet,

@@ -10,7 +10,7 @@ use prog_tree::Name;
 use repair_laws::NewTable;
 use std::alloc::{AllocError, Global};
 
-/// Whether a new table has the name.
+// Whether a new table has the name.
 fn is_new(made: &[NewTable], name: &str) -> bool
     ensures { result ≡ is_among (new_names made.now) name.now }
 {
@@ -22,7 +22,7 @@ fn is_new(made: &[NewTable], name: &str) -> bool
     false
 }
 
-/// Whether a table of the set or a new one has the name.
+// Whether a table of the set or a new one has the name.
 fn is_taken(set: &ProgramSet, made: &[NewTable], name: &str) -> bool
     ensures { result ≡ is_among (taken_names (draft_tree set.now) made.now) name.now }
 {

@@ -50,7 +50,7 @@ pub fn has_unknown_key(access: &Access) -> bool
     is_unknown(access.first.low) || is_unknown_second(access.second)
 }
 
-/// Whether an access stands in the body of an `each`.
+// Whether an access stands in the body of an `each`.
 fn is_in_body(access: &Access) -> bool
     ensures { IsTrue result ↔ (access.now.sure ≡ false) }
 {
@@ -63,7 +63,7 @@ fn meet_in_body(read: &Access, other: &Access) -> bool
     is_in_body(read) || is_in_body(other)
 }
 
-/// Whether this is why no keep covers a read, with the access that it may miss.
+// Whether this is why no keep covers a read, with the access that it may miss.
 fn hinders(obstacle: Obstacle, ranges: &[bool], read: &Access, other: &Access) -> bool
     ensures { IsTrue result ↔ Hinders obstacle (IsRangeIn ranges.now) read.now other.now }
 {
@@ -74,7 +74,7 @@ fn hinders(obstacle: Obstacle, ranges: &[bool], read: &Access, other: &Access) -
     }
 }
 
-/// The first question whose read no keep covers for this reason.
+// The first question whose read no keep covers for this reason.
 fn first_hindered(
     paths: &[Path],
     ranges: &[bool],
@@ -94,7 +94,7 @@ fn first_hindered(
     None
 }
 
-/// Whether an obstacle hinders one of some questions.
+// Whether an obstacle hinders one of some questions.
 fn is_hindered(paths: &[Path], ranges: &[bool], questions: &[Question], obstacle: Obstacle) -> bool
     requires { All (λ q. HasBoth paths.now q) questions.now }
     ensures { IsTrue result

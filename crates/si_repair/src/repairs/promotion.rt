@@ -27,7 +27,7 @@ use prog_tree::Draft;
 use repair_laws::Pair;
 use std::alloc::{AllocError, Global};
 
-/// Refuses a pair with an exposed read that no keep covers.
+// Refuses a pair with an exposed read that no keep covers.
 fn refuse_obstacle(
     alloc: Global,
     draft: &Draft,
@@ -48,7 +48,7 @@ fn refuse_obstacle(
     }
 }
 
-/// The exposed questions of a pair, if keeps cover its reads.
+// The exposed questions of a pair, if keeps cover its reads.
 fn coverable_questions(
     alloc: Global,
     draft: &Draft,
@@ -65,22 +65,22 @@ fn coverable_questions(
     Ok(questions)
 }
 
-/// A pair whose exposed reads keeps cover, with the questions of these reads.
+// A pair whose exposed reads keeps cover, with the questions of these reads.
 #[derive(Drop)]
 struct CoverablePair {
     pair: Pair,
     questions: Vec<Question>,
 }
 
-/// The first pairs of a plan, whose reads keeps cover, and the fault of the next one, where they
-/// do not.
+// The first pairs of a plan, whose reads keeps cover, and the fault of the next one, where they
+// do not.
 #[derive(Drop)]
 struct CoverablePairs {
     coverable: Vec<CoverablePair>,
     fault: Option<RepairFault>,
 }
 
-/// The pairs up to the first that no keeps cover, or all.
+// The pairs up to the first that no keeps cover, or all.
 fn coverable_pairs(
     alloc: Global,
     draft: &Draft,
@@ -110,7 +110,7 @@ fn coverable_pairs(
     })
 }
 
-/// The marks of the exposed reads of these pairs.
+// The marks of the exposed reads of these pairs.
 fn marked_statements(
     alloc: Global,
     paths: &[Path],
@@ -127,7 +127,7 @@ fn marked_statements(
     Ok(marks)
 }
 
-/// The set with keeps for these pairs, or none where that breaks a limit.
+// The set with keeps for these pairs, or none where that breaks a limit.
 fn with_keeps(
     alloc: Global,
     set: &ProgramSet,
@@ -148,7 +148,7 @@ fn with_keeps(
     checked_set(alloc, whole)
 }
 
-/// The pairs that keeps cover, of which the first ones get theirs.
+// The pairs that keeps cover, of which the first ones get theirs.
 #[derive(Drop)]
 struct FirstCoverable<'a> {
     set: &'a ProgramSet,
@@ -168,14 +168,14 @@ impl<'a> Firsts for FirstCoverable<'a> {
     ghost is_refused = { λ firsts n. IsRefusedWith (draft_tree firsts.set.now)
         (pairs_of (take n firsts.coverable.now)) };
 
-    /// Whether the set with keeps for the first pairs breaks no limit.
+    // Whether the set with keeps for the first pairs breaks no limit.
     fn fit(&self, alloc: Global, n: usize) -> Result<bool, AllocError> {
         let promoted = with_keeps(alloc, self.set, self.paths, &self.coverable[..n])?;
         Ok(promoted.is_some())
     }
 }
 
-/// The first of the pairs with which what they make is too large, where with all of them it is.
+// The first of the pairs with which what they make is too large, where with all of them it is.
 fn first_stop(
     alloc: Global,
     set: &ProgramSet,
@@ -201,8 +201,8 @@ fn first_stop(
     Ok(coverable[fitting].pair)
 }
 
-/// The set with keeps for pairs that were gathered, or the fault of the first that stops them: what
-/// is not too large with all of them is not with the first ones alone.
+// The set with keeps for pairs that were gathered, or the fault of the first that stops them: what
+// is not too large with all of them is not with the first ones alone.
 fn promoted_or_stop(
     alloc: Global,
     set: &ProgramSet,

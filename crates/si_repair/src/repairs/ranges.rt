@@ -9,7 +9,7 @@ ghost use Rattle.si_repair.specs.Obstacles.{range_list, program_ranges};
 use prog_tree::{Block, Draft, Stmt};
 use std::alloc::{AllocError, Global};
 
-/// Adds whether a statement is a range, and the same of those in its blocks.
+// Adds whether a statement is a range, and the same of those in its blocks.
 #[cycle(ranges)]
 fn push_stmt(ranges: &mut Vec<bool>, stmt: &Stmt) -> Result<(), AllocError>
     ensures { OnOk result ((rest : BlockTree) → ranges.new.items ++ range_list rest
@@ -44,7 +44,7 @@ fn push_stmt(ranges: &mut Vec<bool>, stmt: &Stmt) -> Result<(), AllocError>
     Ok(())
 }
 
-/// Adds for each statement of a block whether it is a range.
+// Adds for each statement of a block whether it is a range.
 #[cycle(ranges)]
 fn push_block(ranges: &mut Vec<bool>, block: &Block) -> Result<(), AllocError>
     ensures { OnOk result
