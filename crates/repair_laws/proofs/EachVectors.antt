@@ -157,7 +157,7 @@ mine_is pair e =
     (is_one e.question.question.y e.question.question.b e.question.theirs e.question.asked.at_theirs) e.question.asked.table e.question.kinds
 
 known_key : HasUnknownKey read → ⊥
-known_key (inl h) = h
+known_key (inl h) = false≢true h
 known_key (inr h) = h
 
 not_unknown : (pair : Pair) → HasUnknownRead move_set pair → ⊥
