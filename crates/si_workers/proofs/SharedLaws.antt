@@ -10,7 +10,7 @@ use Rattle.prog_tree.specs.Table.{TableState, is_in, rows_in}
 use Rattle.prog_run.specs.declared.fault.AnswerFault.TheVariants.{BadRows}
 use Rattle.prog_run.specs.declared.next.Next.{Next}
 use Rattle.prog_run.specs.View.{RunView, asked_region, scan_fault}
-use Rattle.history_book.specs.Refusals.{IsCommitFault, IsEndFault, IsRegionRead, IsWithdrawal, HandsBack}
+use Rattle.history_book.specs.Refusals.{IsCommitFault, IsEndFault, IsRegionRead, IsWithdrawal}
 use Rattle.history_book.specs.Runs.{IsAborted, IsCommitted}
 use Rattle.history_book.specs.Ticket.{TicketView}
 use Rattle.history_book.specs.View.{BookView, active_at, begin_fault_of, fault_by, full_fault, is_full, rows_for, state_in, IsBeginRefusedBy}
@@ -21,10 +21,9 @@ use Rattle.history_book.specs.declared.fault.CommitFault.TheVariants as commit
 use Rattle.history_book.specs.declared.fault.EndFault.{EndFault}
 use Rattle.history_book.specs.declared.fault.EndFault.TheVariants as end
 use Rattle.history_book.specs.declared.fault.ScanFault.{ScanFault}
-use Rattle.history_book.specs.declared.fault.Unused.{Unused}
 use Rattle.history_book.specs.History.{Instance}
 use Rattle.si_workers.specs.Freshness.{IsOfNoNumber}
-use Rattle.si_workers.specs.HandedIn.{AreRowsOf, IsHandedBack, IsCommitAnswer, IsEndAnswer}
+use Rattle.si_workers.specs.HandedIn.{AreRowsOf, IsCommitAnswer, IsEndAnswer}
 
 -- ---- begins
 
@@ -80,27 +79,24 @@ no_fault asked region rows asks all =
 
 -- ---- commits, ends and withdrawals
 
-back : (old new : BookView) (t : TicketView) (run : RunView) (unused : Unused) → HandsBack old new t run unused → IsHandedBack t run unused
-back old new t run unused hands = record { same_ticket = hands.same_ticket; same_run = hands.same_run }
-
 pub commit-answered :
     (old new : BookView) (t : TicketView) (run : RunView) (r : Result ℕ CommitFault) →
     IfOk r (IsCommitted old new t run) → IfErr r (IsCommitFault old new t run) → IsCommitAnswer t run r
 commit-answered old new t run (Ok number) ok err = (ok.ready, omega (arith, ok.number))
 commit-answered old new t run (Err (commit.Clashed clash)) ok err = err.ready
-commit-answered old new t run (Err (commit.NoSuchTicket unused)) ok err = back old new t run unused err.0
-commit-answered old new t run (Err (commit.NotReady unused)) ok err = (back old new t run unused err.0, err.2)
-commit-answered old new t run (Err (commit.ForeignRun place unused)) ok err = (back old new t run unused err.0, err.1)
-commit-answered old new t run (Err (commit.Memory unused)) ok err = (back old new t run unused err.0, err.1)
+commit-answered old new t run (Err (commit.NoSuchTicket unused)) ok err = err.0.handed_back
+commit-answered old new t run (Err (commit.NotReady unused)) ok err = (err.0.handed_back, err.2)
+commit-answered old new t run (Err (commit.ForeignRun place unused)) ok err = (err.0.handed_back, err.1)
+commit-answered old new t run (Err (commit.Memory unused)) ok err = (err.0.handed_back, err.1)
 
 pub end-answered :
     (old new : BookView) (t : TicketView) (run : RunView) (r : Result (Unit {0}) EndFault) →
     OnOk r (IsAborted old new t run) → IfErr r (IsEndFault old new t run) → IsEndAnswer t run r
 end-answered old new t run (Ok done) ok err = (ok.cause, ok.aborted)
-end-answered old new t run (Err (end.NoSuchTicket unused)) ok err = back old new t run unused err.0
-end-answered old new t run (Err (end.NotAborted unused)) ok err = (back old new t run unused err.0, err.2)
-end-answered old new t run (Err (end.ForeignRun place unused)) ok err = (back old new t run unused err.0, err.1)
-end-answered old new t run (Err (end.Memory unused)) ok err = (back old new t run unused err.0, err.1)
+end-answered old new t run (Err (end.NoSuchTicket unused)) ok err = err.0.handed_back
+end-answered old new t run (Err (end.NotAborted unused)) ok err = (err.0.handed_back, err.2)
+end-answered old new t run (Err (end.ForeignRun place unused)) ok err = (err.0.handed_back, err.1)
+end-answered old new t run (Err (end.Memory unused)) ok err = (err.0.handed_back, err.1)
 
 pub withdrawn-back :
     (old new : BookView) (t : TicketView) (r : Result (Unit {0}) TicketView) →

@@ -5,22 +5,16 @@ use Rattle.prog_tree.specs.declared.deed.End.TheVariants.{Ready}
 use Rattle.prog_tree.specs.declared.cell.Region.{Region}
 use Rattle.prog_tree.specs.Table.{TableState, is_in}
 use Rattle.prog_run.specs.View.{RunView}
-use Rattle.history_book.specs.Refusals.{HasAborted}
+use Rattle.history_book.specs.Refusals.{HasAborted, IsHandedBack}
 use Rattle.history_book.specs.Ticket.{TicketView}
 use Rattle.history_book.specs.declared.fault.CommitFault.{CommitFault}
 use Rattle.history_book.specs.declared.fault.CommitFault.TheVariants as commit
 use Rattle.history_book.specs.declared.fault.EndFault.{EndFault}
 use Rattle.history_book.specs.declared.fault.EndFault.TheVariants as end
-use Rattle.history_book.specs.declared.fault.Unused.{Unused}
 
 -- each row is one of the region
 abbrev pub AreRowsOf : Region → TableState → Type 0
 AreRowsOf region rows = All (λ row. is_in region row.0 ≡ true) rows
-
--- the ticket and the run are handed back
-pub record IsHandedBack (t : TicketView) (run : RunView) (unused : Unused) : Type 0 where
-  pub same_ticket : unused.ticket ≡ t
-  pub same_run : unused.run ≡ run
 
 -- an instance commits or clashes by a run that is ready, and commits are numbered from 1; else both are handed back
 abbrev pub IsCommitAnswer : TicketView → RunView → Result ℕ CommitFault → Type 0

@@ -121,6 +121,7 @@ pub(crate) fn run_threads<'a, R: Threads + Wait + Sync, G: Gate + Sync, J: Namin
                 × (length lent.now.jobs.now ≤ MAX_JOBS) }
         { start_all(scope, lent, pass, workers, &mut handles) },
     );
+    // `done` has room for all of them; no clause of the scope says how many handles there are.
     let mut lacked = false;
     for handle in handles {
         let pushed = done.push(handle.join(rt));
