@@ -1,5 +1,6 @@
 -- What is said of the edges of a dangerous structure.
 use Rattle.std.specs.Prelude.{ℕ, ◌≡◌, true, false, List, ◌++◌, codes}
+use Rattle.prog_paths.specs.Questions.{numbers_of}
 use Rattle.prog_paths.specs.declared.accesses.questions.Question.{Question}
 use Rattle.dep_graph.specs.declared.danger.Danger.{Danger}
 use Rattle.dep_graph.specs.declared.danger.Exposure.{Exposure}
@@ -42,8 +43,7 @@ told_text sight edge = look_text sight edge ++ (codes "; " ++ change_text sight 
 
 -- two questions are of the same accesses of the same nodes
 abbrev pub IsSameQuestion : Question → Question → Type 0
-IsSameQuestion question other =
-    ((question.x ≡ other.x) × (question.a ≡ other.a)) × ((question.y ≡ other.y) × (question.b ≡ other.b))
+IsSameQuestion question other = numbers_of question ≡ numbers_of other
 
 -- both edges are of the same accesses, and told alike: in the same sample
 abbrev pub IsRepeated : Sight → Danger → Type 0

@@ -1,9 +1,10 @@
 -- What the words of a repair have to say.
-use Rattle.std.specs.Prelude.{ℕ, ◌≡◌, List, [], ◌∷◌, ◌++◌, codes}
+use Rattle.std.specs.Prelude.{ℕ, ◌≡◌, List, ◌++◌, codes}
 use Rattle.std.specs.Fmt.{decimal}
 use Rattle.prog_tree.specs.Syntax.{DraftTree}
 use Rattle.prog_check.specs.Limits.{most_tables, most_statements, most_accesses}
 use Rattle.repair_laws.specs.declared.plan.Pair.{Pair}
+use Rattle.text_places.specs.Listing.{TellsEach}
 use Rattle.fault_words.specs.Naming.{program_name}
 use Rattle.analysis_words.specs.SharedWords.{other_run}
 use Rattle.si_repair.specs.declared.repairs.fault.RepairFault.{RepairFault}
@@ -26,18 +27,12 @@ abbrev pub TellsPair : DraftTree → Pair → (words : List ℕ) → Type 0
 TellsPair set pair words =
     (put looks : List ℕ) × (words ≡ pair_sentence set pair (codes "could miss a change of") put ++ looks)
 
--- the words of each of these pairs, in their order
-abbrev pub TellsPairs : DraftTree → (pairs : List Pair) → (words : List ℕ) → Type 0
-TellsPairs set [] words = words ≡ []
-TellsPairs set (pair ∷ pairs) words =
-    (said rest : List ℕ) × TellsPair set pair said × TellsPairs set pairs rest × (words ≡ said ++ rest)
-
 abbrev pub heading : List ℕ
 heading = codes "repaired: the two of each of these pairs clash now where both are under way at once\n"
 
 -- the words of each pair of a plan behind a heading
 abbrev pub TellsRepair : DraftTree → (plan : List Pair) → (words : List ℕ) → Type 0
-TellsRepair set plan words = (parts : List ℕ) × TellsPairs set plan parts × (words ≡ heading ++ parts)
+TellsRepair set plan words = (parts : List ℕ) × TellsEach (TellsPair set) plan parts × (words ≡ heading ++ parts)
 
 -- the limits that a set may pass with the statements for its pairs
 abbrev pub limits_text : List ℕ

@@ -58,8 +58,8 @@ mistold_text sight certificate node =
 abbrev pub count_text : (what : List ℕ) → (count nodes : ℕ) → List ℕ
 count_text what count nodes = what ++ (codes ": " ++ (decimal count ++ (codes ", nodes: " ++ (decimal nodes ++ codes "; "))))
 
--- how many levels and nodes there are; or where these are as many, how many numbers of `bodies`; or where those are too,
--- the first of these numbers that is wrong
+-- how many levels and nodes there are; or where these are as many, how many numbers of `bodies`; or where those are
+-- too, the first of these numbers that is wrong
 abbrev pub counts_text : Sight → Certificate → List ℕ
 counts_text sight certificate =
     if length certificate.levels == length sight.paths

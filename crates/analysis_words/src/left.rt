@@ -1,5 +1,5 @@
 //! What a repair of a whole set keeps apart.
-ghost use Rattle.std.specs.Prelude.{◌≡◌, IfOk, flat_map, string_bytes, take};
+ghost use Rattle.std.specs.Prelude.{◌≡◌, IfOk, flat_map, string_bytes};
 ghost use Rattle.prog_tree.specs.Tree.{draft_tree};
 ghost use Rattle.analysis_words.specs.Left.{further_text, left_text, pair_count_text, pair_text};
 
@@ -9,6 +9,7 @@ use crate::shared_words::{more_text, other_run};
 use prog_check::ProgramSet;
 use si_repair::Pair;
 use std::alloc::{AllocError, Global};
+use text_places::before;
 
 // The two programs of a pair.
 fn pair_text(alloc: Global, set: &ProgramSet, pair: Pair) -> Result<String, AllocError>
@@ -40,13 +41,6 @@ fn further_pairs(alloc: Global, set: &ProgramSet, pairs: &[Pair]) -> Result<Stri
     Ok(text)
 }
 
-// Those that are named.
-fn first_named(pairs: &[Pair]) -> &[Pair]
-    ensures { result.now ≡ take MAX_FURTHER pairs.now }
-{
-    pairs.get(..MAX_FURTHER).unwrap_or(pairs)
-}
-
 // How many pairs there are.
 fn pair_count_text(alloc: Global, count: usize) -> Result<String, AllocError>
     ensures { IfOk result (λ text. string_bytes text ≡ pair_count_text count) }
@@ -66,7 +60,7 @@ pub fn left_text(alloc: Global, set: &ProgramSet, pairs: &[Pair]) -> Result<Stri
     };
     let count = pair_count_text(alloc, pairs.len())?;
     let first = pair_text(alloc, set, *first)?;
-    let further = further_pairs(alloc, set, first_named(others))?;
+    let further = further_pairs(alloc, set, before(others, MAX_FURTHER))?;
     let more = more_text(alloc, others.len().saturating_sub(MAX_FURTHER))?;
     format!(in alloc; "for the whole set {count} to be kept apart: {first}{further}{more}\n")
 }

@@ -1,7 +1,6 @@
 //! Statements and cells as words quote them: in one line, as a terminal may show it.
 ghost use Rattle.std.specs.Prelude.{◌≡◌, ◌≤◌, ◌++◌, IfOk, OnOk, length, string_bytes};
 ghost use Rattle.std.specs.List.{before_first, prefix_len};
-ghost use Rattle.text_places.specs.Tokens.{is_before_key};
 ghost use Rattle.analysis_words.specs.Quoting.{cells_of, ends_statement, gap_before, in_one_line};
 ghost use Rattle.analysis_words.specs.Quoting.{is_before_bracket, is_before_end, quoted_cells};
 ghost use Rattle.analysis_words.specs.Quoting.{quoted_statement, spaced_byte, to_bracket};
@@ -9,7 +8,7 @@ ghost use Rattle.analysis_words.specs.Quoting.{with_single_spaces};
 
 use crate::limits::MAX_QUOTED;
 use std::alloc::{AllocError, Global};
-use text_places::{SetText, before, behind, table_name, visible_text};
+use text_places::{SetText, before, behind, key_place, table_name, visible_text};
 
 // A space where blanks came last.
 fn push_gap(line: &mut Vec<u8>, gap: bool) -> Result<(), AllocError>
@@ -114,22 +113,6 @@ fn to_bracket(bytes: &[u8]) -> &[u8]
     ensures { result.now ≡ to_bracket bytes.now }
 {
     before(bytes, bracket_place(bytes) + 1)
-}
-
-fn is_before_key(byte: u8) -> bool
-    ensures { result ≡ is_before_key byte }
-{
-    byte != b'['
-}
-
-// How many bytes stand before the first `[`.
-fn key_place(bytes: &[u8]) -> usize
-    ensures { result ≡ prefix_len is_before_key bytes.now }
-{
-    bytes
-        .iter()
-        .take_while(|byte| is_before_key(**byte))
-        .count()
 }
 
 // A table with its key.

@@ -93,7 +93,8 @@ fn unknown_words(alloc: Global, scope: &Scope<'_>, name: &str) -> Result<String,
     format!(in alloc; "`{name}` is no parameter, and no `let` or `each` before binds it; {known}")
 }
 
-/// The same of the name at the mark.
+/// That the name at the mark is not bound, or is a word of the language but for the case of its
+/// letters.
 pub fn unbound_name(
     alloc: Global,
     plain: &[u8],

@@ -43,12 +43,11 @@ fn unknown_table(alloc: Global, text: &[u8], statement: &[u8]) -> Result<String,
 }
 
 fn arity_of(draft: &Draft, name: &str) -> Option<Arity> {
-    for table in &draft.tables {
-        if table.name.as_str() == name {
-            return Some(table.arity);
-        }
-    }
-    None
+    let table = draft
+        .tables
+        .iter()
+        .find(|table| table.name.as_str() == name)?;
+    Some(table.arity)
 }
 
 fn wrong_columns(alloc: Global, text: &[u8], statement: &[u8]) -> Result<String, AllocError> {

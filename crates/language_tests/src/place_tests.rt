@@ -5,7 +5,7 @@ use std::process::Abort;
 use std::test::Fail;
 use text_places::{
     SetText, as_text, before, begins_token, begins_word, behind, behind_word, bracketed, column,
-    ends_line, feeds, first_token, first_word, job_place, last_end, last_token, line_at,
+    ends_line, feeds, first_token, first_word, job_place, key_place, last_end, last_token, line_at,
     line_front, line_number, point_out, push_listed, record_place, second_token, short_word,
     stands_free, table_name, visible_text, without_comments,
 };
@@ -33,6 +33,7 @@ fn words_and_signs_are_cut_out(rt: HostRuntime) {
 fn names_are_cut_out(rt: HostRuntime) {
     assert!(rt; as_text(short_word(b"programmes")) == "programm");
     assert!(rt; as_text(table_name(b"let x = get stock [k] else 0;")) == "stock");
+    assert!(rt; key_place(b"get stock [k]") == 10);
     assert!(rt; as_text(b"\xff") == "");
 }
 

@@ -1,6 +1,5 @@
 pub mod BeginReasons
 pub mod Cycles
-pub mod EachLine
 pub mod InInput
 pub mod JobSentences
 pub mod JobSpots

@@ -5,6 +5,7 @@ use Rattle.std.specs.List.{range_with_len}
 use Rattle.text_places.specs.Landmarks.{HasNoJob, IsJobPlace}
 use Rattle.text_places.specs.Places.{line_number}
 use Rattle.text_places.specs.Quotes.{visible}
+use Rattle.text_places.specs.Listing.{TellsEach}
 use Rattle.prog_tree.specs.Syntax.{DraftTree}
 use Rattle.job_list.specs.declared.job.JobOutcome.{JobOutcome}
 use Rattle.job_list.specs.declared.job.Way.{Way}
@@ -12,7 +13,6 @@ use Rattle.job_list.specs.declared.job.Way.TheVariants.{Aborted, Clashed, Refuse
 use Rattle.job_list.specs.Ways.{is_in}
 use Rattle.run_words.specs.declared.in_input.Part.{Part}
 use Rattle.run_words.specs.declared.lost_jobs.ToldJobs.{ToldJobs}
-use Rattle.run_words.specs.EachLine.{TellsEach}
 use Rattle.run_words.specs.InInput.{input_line_text}
 use Rattle.run_words.specs.JobSentences.{IsJobSentence}
 use Rattle.run_words.specs.Limits.{most_told}

@@ -2,6 +2,7 @@
 use Rattle.std.specs.Prelude.{ℕ, ◌≡◌, ◌==◌, ◌<◌, ◌≤◌, ◌+◌, ◌-◌, ◌^◌, ◌⊎◌, ◌||◌, Bool, true, false, List, [], ◌∷◌, ◌++◌, Option, Some, None, codes, drop, if◌then◌else◌, length, min, slice_get}
 use Rattle.std.specs.Fmt.{decimal}
 use Rattle.text_places.specs.Places.{HasNoLine}
+use Rattle.text_places.specs.Listing.{TellsEach}
 use Rattle.si_engine.specs.declared.event.Event.{Event}
 use Rattle.si_engine.specs.declared.event.Event.TheVariants as event
 use Rattle.si_engine.specs.declared.event.Reply.{Reply}
@@ -11,7 +12,6 @@ use Rattle.run_words.specs.declared.refusals.Refusals.{Refusals}
 use Rattle.run_words.specs.declared.refusals.EventRefusal.{EventRefusal}
 use Rattle.run_words.specs.declared.refusals.EventRefusal.TheVariants as refusal
 use Rattle.run_words.specs.declared.refusals.Refused.{Refused}
-use Rattle.run_words.specs.EachLine.{TellsEach}
 use Rattle.run_words.specs.Limits.{most_told}
 use Rattle.run_words.specs.PartPointing.{PointsAtLineIn}
 

@@ -1,6 +1,7 @@
 //! The numbers of commits at which instances can begin.
 
 use crate::event_lines::EventLines;
+use fault_words::program_params;
 use history_book::{BeginFault, Book};
 use prog_check::MAX_PARAMETERS;
 use std::alloc::{AllocError, Global};
@@ -27,8 +28,7 @@ pub struct Vacuums {
 
 // The least number at which an instance can begin, which a begin of the first program at 0 is told.
 fn floor_of(book: &Book<'_>) -> u64 {
-    let programs = &book.set().draft().programs;
-    let count = programs.get(0).map_or(0, |program| program.params.len());
+    let count = program_params(book.set().draft(), 0).len();
     let args = ZEROS.get(..count).unwrap_or(&[]);
     match book.refusal_at(0, 0, args) {
         Some(BeginFault::TooOld { floor }) => floor,

@@ -1,10 +1,9 @@
 //! Why a job did not commit, in words.
-ghost use Rattle.std.specs.Prelude.{◌≡◌, IfOk, slice_get, string_bytes, take};
+ghost use Rattle.std.specs.Prelude.{◌≡◌, IfOk, slice_get, string_bytes};
 ghost use Rattle.prog_tree.specs.Tree.{draft_tree};
 ghost use Rattle.run_words.specs.JobSentences.{argument_text, arguments_text, named_call_text};
 ghost use Rattle.run_words.specs.JobSentences.{clash_text, further_arguments, reason_of};
 ghost use Rattle.run_words.specs.JobSentences.{sentence_of, tries_text, IsJobSentence};
-ghost use Rattle.run_words.specs.Limits.{most_arguments};
 
 use crate::begin_reasons::begin_reason;
 use crate::limits::MAX_ARGUMENTS;
@@ -14,7 +13,7 @@ use job_list::{Job, JobEnd, JobOutcome};
 use prog_check::ProgramSet;
 use prog_tree::Name;
 use std::alloc::{AllocError, Global};
-use text_places::push_listed;
+use text_places::{before, push_listed};
 use version_store::Clash;
 
 // The argument of a number, with the name of its parameter.
@@ -48,13 +47,6 @@ fn arguments_text(alloc: Global, params: &[Name], args: &[i64]) -> Result<String
     Ok(text)
 }
 
-// The first arguments of a call.
-fn first_arguments(args: &[i64]) -> &[i64]
-    ensures { result.now ≡ take most_arguments args.now }
-{
-    args.get(..MAX_ARGUMENTS).unwrap_or(args)
-}
-
 // That there are more, where there are.
 fn further_arguments(count: usize) -> &'static str
     ensures { result.now ≡ further_arguments count }
@@ -70,7 +62,7 @@ fn named_call(alloc: Global, set: &ProgramSet, job: &Job) -> Result<String, Allo
     let name = program_name(set, job.program);
     let params = program_params(set.draft(), job.program);
     let args = job.args.as_slice();
-    let arguments = arguments_text(alloc, params, first_arguments(args))?;
+    let arguments = arguments_text(alloc, params, before(args, MAX_ARGUMENTS))?;
     let further = further_arguments(args.len().saturating_sub(MAX_ARGUMENTS));
     format!(in alloc; "`{name}({arguments}{further})`")
 }

@@ -1,9 +1,8 @@
 //! Where the jobs of a list begin that are asked for one after another: each is looked for behind
 //! the last one.
-ghost use Rattle.std.specs.Prelude.{◌≡◌, ◌≤◌, ◌+◌, IfNone, IfSome};
-ghost use Rattle.text_places.specs.Landmarks.{HasNoJob, IsJobPlace};
+ghost use Rattle.std.specs.Prelude.{◌≡◌, ◌≤◌, ◌+◌};
 ghost use Rattle.text_places.specs.Places.{line_number};
-ghost use Rattle.run_words.specs.JobSpots.{IsSpot};
+ghost use Rattle.run_words.specs.JobSpots.{IsFoundJob, IsSpot};
 
 use text_places::{before, behind, feeds, job_place};
 
@@ -36,9 +35,7 @@ fn line_behind(list: &[u8], from: Spot, place: usize) -> usize
 fn spot_behind(list: &[u8], from: Spot, between: usize, number: usize) -> Option<Spot>
     requires from { IsSpot list.now from }
     requires number { from.jobs + between ≡ number }
-    ensures job { IfSome result (λ spot. IsJobPlace list.now number spot.place) }
-    ensures spot { IfSome result (IsSpot list.now) }
-    ensures none { IfNone result (HasNoJob list.now number) }
+    ensures { IsFoundJob list.now number result }
 {
     let place = job_place(list, from.place, between)?;
     Some(Spot {
@@ -52,9 +49,7 @@ fn spot_behind(list: &[u8], from: Spot, between: usize, number: usize) -> Option
 /// from the front.
 pub fn spot_of(list: &[u8], last: Spot, number: usize) -> Option<Spot>
     requires { IsSpot list.now last }
-    ensures job { IfSome result (λ spot. IsJobPlace list.now number spot.place) }
-    ensures spot { IfSome result (IsSpot list.now) }
-    ensures none { IfNone result (HasNoJob list.now number) }
+    ensures { IsFoundJob list.now number result }
 {
     match number.checked_sub(last.jobs) {
         Some(between) => spot_behind(list, last, between, number),

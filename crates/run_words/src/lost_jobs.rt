@@ -1,10 +1,9 @@
 //! The jobs that did not commit, in words.
-ghost use Rattle.std.specs.Prelude.{◌≡◌, ◌++◌, [], ◌∷◌, List, ℕ, IfNone, IfOk, IfSome, OnOk};
+ghost use Rattle.std.specs.Prelude.{◌≡◌, ◌++◌, [], ◌∷◌, List, ℕ, IfOk, OnOk};
 ghost use Rattle.std.specs.Prelude.{slice_get, string_bytes, take, if◌then◌else◌};
 ghost use Rattle.prog_tree.specs.Tree.{draft_tree};
-ghost use Rattle.text_places.specs.Landmarks.{HasNoJob, IsJobPlace};
-ghost use Rattle.run_words.specs.EachLine.{TellsEach};
-ghost use Rattle.run_words.specs.JobSpots.{IsSpot};
+ghost use Rattle.text_places.specs.Listing.{TellsEach};
+ghost use Rattle.run_words.specs.JobSpots.{IsFoundJob, IsSpot};
 ghost use Rattle.run_words.specs.Limits.{most_told};
 ghost use Rattle.run_words.specs.LostJobs.{is_lost_by, more_text, numbers_lost, place_text};
 ghost use Rattle.run_words.specs.LostJobs.{IsJobLine, IsJobText, TellsJob, TellsLosses, TellsLost};
@@ -16,7 +15,7 @@ use crate::limits::MAX_TOLD;
 use job_list::{Job, JobOutcome, Way};
 use prog_check::ProgramSet;
 use std::alloc::{AllocError, Global};
-use text_places::visible_text;
+use text_places::{before, visible_text};
 
 // Whether the job of a number ended in a way.
 fn is_lost_by(way: Way, outcomes: &[JobOutcome], number: usize) -> bool
@@ -76,9 +75,7 @@ fn job_text(
     number: usize,
     spot: Option<Spot>,
 ) -> Result<String, AllocError>
-    requires job { IfSome spot (λ spot. IsJobPlace part.bytes.now number spot.place) }
-    requires spot { IfSome spot (IsSpot part.bytes.now) }
-    requires none { IfNone spot (HasNoJob part.bytes.now number) }
+    requires { IsFoundJob part.bytes.now number spot }
     ensures { IfOk result (λ text. IsJobText part.entry number (string_bytes text)) }
 {
     match spot {
@@ -95,9 +92,7 @@ fn job_line(
     spot: Option<Spot>,
     sentence: &str,
 ) -> Result<String, AllocError>
-    requires job { IfSome spot (λ spot. IsJobPlace part.bytes.now number spot.place) }
-    requires spot { IfSome spot (IsSpot part.bytes.now) }
-    requires none { IfNone spot (HasNoJob part.bytes.now number) }
+    requires { IsFoundJob part.bytes.now number spot }
     ensures { IfOk result (λ line. IsJobLine part.entry number sentence.now (string_bytes line)) }
 {
     let text = job_text(alloc, part, number, spot)?;
@@ -139,13 +134,6 @@ fn more_text(alloc: Global, count: usize) -> Result<String, AllocError>
     format!(in alloc; "  and {count} more\n")
 }
 
-// The first ones of some numbers.
-fn first_ones(numbers: &[usize]) -> &[usize]
-    ensures { result.now ≡ take most_told numbers.now }
-{
-    numbers.get(..MAX_TOLD).unwrap_or(numbers)
-}
-
 // The lines of the first ones of some jobs.
 fn first_lines(
     alloc: Global,
@@ -157,7 +145,7 @@ fn first_lines(
         (take most_told numbers.now) (string_bytes lines)) }
 {
     let mut lines = String::new(alloc);
-    push_jobs(alloc, set, told, first_ones(numbers), &mut lines)?;
+    push_jobs(alloc, set, told, before(numbers, MAX_TOLD), &mut lines)?;
     Ok(lines)
 }
 

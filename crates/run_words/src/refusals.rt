@@ -1,6 +1,6 @@
 //! Which lines of a script do nothing, as its run goes.
 ghost use Rattle.std.specs.Prelude.{◌≡◌, ◌≢◌, ◌<◌, ◌↔◌, ◌⊎◌, [], true, false, None, IfSome, IsOk};
-ghost use Rattle.std.specs.Prelude.{IsTrue, OnOk, length, slice_get, vec_len};
+ghost use Rattle.std.specs.Prelude.{IsTrue, OnOk, length, vec_len};
 ghost use Rattle.run_words.specs.ToldLines.{does_nothing, is_lost, is_of_none, is_refusal};
 ghost use Rattle.run_words.specs.ToldLines.{names_no_instance, refuses, refuses_begin};
 ghost use Rattle.run_words.specs.ToldLines.{refuses_instance, refuses_number, told_lines};
@@ -216,13 +216,6 @@ impl Refusals {
         } else {
             self.told.as_slice()
         }
-    }
-
-    /// The first of them.
-    pub(crate) fn first(&self) -> Option<Refused>
-        ensures { result ≡ slice_get (told_lines self.now) 0 }
-    {
-        self.told_lines().first().copied()
     }
 
     /// Whether no line is told.

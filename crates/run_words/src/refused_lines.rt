@@ -1,8 +1,8 @@
 //! The lines of a script that do nothing, in words.
-ghost use Rattle.std.specs.Prelude.{◌≡◌, ◌++◌, List, ℕ, Some, IfNone, IfOk, IfSome, OnOk, drop};
+ghost use Rattle.std.specs.Prelude.{◌≡◌, ◌++◌, List, ℕ, Some, IfNone, IfOk, IfSome, OnOk};
 ghost use Rattle.std.specs.Prelude.{string_bytes};
 ghost use Rattle.text_places.specs.Places.{HasNoLine};
-ghost use Rattle.run_words.specs.EachLine.{TellsEach};
+ghost use Rattle.text_places.specs.Listing.{TellsEach};
 ghost use Rattle.run_words.specs.PartPointing.{HasNoLineOf, PointsAtLineIn};
 ghost use Rattle.run_words.specs.ToldLines.{first_told, following_text, further_text, TellsLine};
 ghost use Rattle.run_words.specs.ToldLines.{TellsRefused};
@@ -69,13 +69,6 @@ fn words_or_none(
     }
 }
 
-// All but the first.
-fn behind_first(lines: &[Refused]) -> &[Refused]
-    ensures { result.now ≡ drop 1 lines.now }
-{
-    lines.get(1..).unwrap_or(&[])
-}
-
 // Adds lines that do nothing.
 fn push_lines(
     alloc: Global,
@@ -115,37 +108,6 @@ fn further_text(alloc: Global, count: usize) -> Result<String, AllocError>
     format!(in alloc; "further lines that do nothing: {count}\n")
 }
 
-// The lines that are told, from the first on, and how many more there are; nothing where the first
-// is not found.
-fn told_words(
-    alloc: Global,
-    set: &ProgramSet,
-    part: Part<'_>,
-    refusals: &Refusals,
-    first: Refused,
-) -> Result<Option<String>, AllocError>
-    requires { first_told refusals.now ≡ Some first.line }
-    ensures said { IfOk result (λ said. IfSome said (λ words.
-        TellsRefused part.entry refusals.now (string_bytes words))) }
-    ensures none { IfOk result (λ said. IfNone said (HasNoLine part.entry.bytes.now first.line)) }
-{
-    let Some(first) = told_line(alloc, set, part, first)? else {
-        return Ok(None);
-    };
-    let mut others = String::new(alloc);
-    push_lines(
-        alloc,
-        set,
-        part,
-        behind_first(refusals.told_lines()),
-        &mut others,
-    )?;
-    let following = following_text(alloc, refusals.following)?;
-    let further = further_text(alloc, refusals.more)?;
-    let words = format!(in alloc; "{first}{others}{following}{further}")?;
-    Ok(Some(words))
-}
-
 /// Which lines of a script do nothing, and why; nothing where none is told, or the first of them is
 /// not found.
 pub fn refused_words(
@@ -159,8 +121,16 @@ pub fn refused_words(
     ensures none { IfOk result (λ said. IfNone said
         (HasNoLineOf part.entry.bytes.now (first_told refusals.now))) }
 {
-    match refusals.first() {
-        Some(first) => told_words(alloc, set, part, refusals, first),
-        None => Ok(None),
-    }
+    let [head, rest @ ..] = refusals.told_lines() else {
+        return Ok(None);
+    };
+    let Some(first) = told_line(alloc, set, part, *head)? else {
+        return Ok(None);
+    };
+    let mut others = String::new(alloc);
+    push_lines(alloc, set, part, rest, &mut others)?;
+    let following = following_text(alloc, refusals.following)?;
+    let further = further_text(alloc, refusals.more)?;
+    let words = format!(in alloc; "{first}{others}{following}{further}")?;
+    Ok(Some(words))
 }

@@ -1,4 +1,5 @@
 mod Begun
 mod Counting
+pub mod EachTold
 mod Finding
 mod Fronts

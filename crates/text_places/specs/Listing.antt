@@ -1,5 +1,5 @@
--- Lists with commas.
-use Rattle.std.specs.Prelude.{ℕ, ℤ, List, [], ◌∷◌, ◌++◌, codes, fold}
+-- Lists with commas, and texts that say something of each item of a list, one behind the other.
+use Rattle.std.specs.Prelude.{ℕ, ℤ, ◌≡◌, List, [], ◌∷◌, ◌++◌, codes, fold}
 use Rattle.std.specs.Fmt.{signed_decimal}
 use Rattle.std.specs.List.{flat_map}
 
@@ -23,3 +23,9 @@ further_numbers numbers = flat_map (λ n. codes ", " ++ signed_decimal n) number
 abbrev pub bracketed : List ℤ → List ℕ
 bracketed [] = codes "()"
 bracketed (first ∷ others) = codes "(" ++ (signed_decimal first ++ (further_numbers others ++ codes ")"))
+
+-- what is told of each of these items, in their order
+abbrev pub TellsEach : {A : Type 0} → (tells : A → List ℕ → Type 0) → List A → (words : List ℕ) → Type 0
+TellsEach tells [] words = words ≡ []
+TellsEach tells (item ∷ items) words =
+    (line rest : List ℕ) × tells item line × TellsEach tells items rest × (words ≡ line ++ rest)

@@ -21,4 +21,6 @@ pub use reading::{
     begins_word, behind_word, first_word, last_end, short_word, stands_free, without_comments,
 };
 pub use set_text::SetText;
-pub use tokens::{as_text, begins_token, first_token, last_token, second_token, table_name};
+pub use tokens::{
+    as_text, begins_token, first_token, key_place, last_token, second_token, table_name,
+};

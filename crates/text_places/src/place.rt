@@ -7,14 +7,14 @@ ghost use Rattle.text_places.specs.Places.{IsLineFront};
 
 use crate::byte_kind::{ByteKind, first_count, last_count};
 
-/// The bytes before a place.
-pub fn before(text: &[u8], place: usize) -> &[u8]
-    ensures { result.now ≡ take place text.now }
+/// The items before a place.
+pub fn before<T>(items: &[T], place: usize) -> &[T]
+    ensures { result.now ≡ take place items.now }
 {
-    if place < text.len() {
-        &text[..place]
+    if place < items.len() {
+        &items[..place]
     } else {
-        text
+        items
     }
 }
 

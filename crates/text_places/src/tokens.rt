@@ -98,8 +98,8 @@ fn opens_key(byte: u8) -> bool
     byte == b'['
 }
 
-// How many bytes stand before the first `[`.
-fn key_place(bytes: &[u8]) -> usize
+/// How many bytes stand before the first `[`.
+pub fn key_place(bytes: &[u8]) -> usize
     ensures { result ≡ prefix_len is_before_key bytes.now }
 {
     bytes.iter().take_while(|byte| !opens_key(**byte)).count()

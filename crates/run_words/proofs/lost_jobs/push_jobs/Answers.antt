@@ -3,7 +3,8 @@ use Rattle.prog_tree.specs.Tree.{draft_tree}
 use Rattle.run_words.specs.JobSpots.{IsSpot}
 use Rattle.run_words.specs.LostJobs.{TellsJob}
 use Rattle.run_words.specs.declared.job_spots.Spot.{Spot}
-use Rattle.run_words.proofs.LostLines.{last_spot, TellsEach-more}
+use Rattle.text_places.proofs.EachTold.{TellsEach-more}
+use Rattle.run_words.proofs.LostLines.{last_spot}
 use Rattle.run_words.proofs.lost_jobs.push_jobs.Goals as goal
 
 pub loop-index-preserved : goal.loop-index-preserved

@@ -1,6 +1,6 @@
 use Rattle.std.proofs.Common.{ℕ, ◌≡◌, ◌++◌, List, string_bytes, take}
 use Rattle.prog_tree.specs.Tree.{draft_tree}
-use Rattle.run_words.specs.EachLine.{TellsEach}
+use Rattle.text_places.specs.Listing.{TellsEach}
 use Rattle.run_words.specs.JobSpots.{IsSpot}
 use Rattle.run_words.specs.LostJobs.{TellsJob}
 use Rattle.run_words.proofs.lost_jobs.push_jobs.Given as goal

@@ -1,6 +1,6 @@
 use Rattle.std.proofs.Common.{◌++◌, ◌∙◌, ap, append_assoc}
 use Rattle.run_words.specs.ToldLines.{TellsLine}
-use Rattle.run_words.proofs.LostLines.{TellsEach-more}
+use Rattle.text_places.proofs.EachTold.{TellsEach-more}
 use Rattle.run_words.proofs.refused_lines.push_lines.Goals as goal
 
 pub loop-refused-preserved : goal.loop-refused-preserved

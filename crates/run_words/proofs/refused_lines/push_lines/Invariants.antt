@@ -1,5 +1,5 @@
 use Rattle.std.proofs.Common.{ℕ, ◌≡◌, ◌++◌, List, string_bytes, take}
-use Rattle.run_words.specs.EachLine.{TellsEach}
+use Rattle.text_places.specs.Listing.{TellsEach}
 use Rattle.run_words.specs.ToldLines.{TellsLine}
 use Rattle.run_words.proofs.refused_lines.push_lines.Given as goal
 
