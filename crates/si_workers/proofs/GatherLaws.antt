@@ -8,11 +8,12 @@ use Rattle.std.proofs.lemmas.List.Concat.{flat_map-append}
 use Rattle.std.proofs.lemmas.Option.{slice_get-map, slice_get_past, slice_get_within}
 use Rattle.si_workers.specs.KeptAndTold.{Tidings}
 use Rattle.si_workers.specs.Gathered.{outcome_in, with_one, with_all, AreToldMore}
-use Rattle.si_workers.specs.Told.{Report, outcomes_of, only, AreTold}
+use Rattle.si_workers.specs.Told.{outcomes_of, only, AreTold}
+use Rattle.job_worker.specs.Work.{Report}
 use Rattle.job_list.specs.declared.job.Job.{Job}
 use Rattle.job_list.specs.declared.job.JobOutcome.{JobOutcome}
 use Rattle.si_workers.specs.declared.told.ToldOfJob.{ToldOfJob}
-use Rattle.si_workers.specs.declared.worker.Done.{Done}
+use Rattle.job_worker.specs.declared.worker.Done.{Done}
 use Rattle.si_workers.specs.declared.told.ToldOfJob.TheVariants.{Nothing, Often}
 use Rattle.prog_tree.proofs.Elements.{get-set_other, get-set_same}
 

@@ -1,10 +1,7 @@
 -- The states of a book stay what they were.
-use Rattle.std.proofs.Common.{◌≡◌, ◌∙◌, ℕ, List, [], ◌∷◌, Result, Ok, Err, IfOk, IfErr, refl, ap, subst, sym, arith, length-append}
-use Rattle.std.specs.Prelude.{OnOk, Option, Some, None, IsSome, slice_get}
-use Rattle.std.proofs.lemmas.List.Elements.{filter_passes}
-use Rattle.prog_tree.specs.declared.cell.Region.{Region}
-use Rattle.prog_tree.specs.Table.{TableState, is_in, rows_in}
-use Rattle.prog_run.specs.Looks.{AreFound, IsFoundLast, last_look}
+use Rattle.std.proofs.Common.{◌∙◌, ℕ, List, [], ◌∷◌, Result, Ok, Err, IfOk, IfErr, subst, sym, arith, length-append}
+use Rattle.std.specs.Prelude.{OnOk}
+use Rattle.prog_tree.specs.Table.{TableState}
 use Rattle.prog_run.specs.View.{RunView}
 use Rattle.history_book.proofs.CommitLaws.{state_in-committed}
 use Rattle.history_book.specs.Refusals.{IsCommitFault, IsEndFault}
@@ -16,8 +13,7 @@ use Rattle.history_book.specs.declared.fault.CommitFault.TheVariants as commit
 use Rattle.history_book.specs.declared.fault.EndFault.{EndFault}
 use Rattle.history_book.specs.declared.fault.EndFault.TheVariants as end
 use Rattle.history_book.specs.declared.instances.row.HistoryRow.{HistoryRow}
-use Rattle.si_workers.specs.HandedIn.{AreRowsOf}
-use Rattle.si_workers.specs.KnownStates.{AreStatesOf, IsFoundIn, IsKnown}
+use Rattle.si_workers.specs.KnownStates.{AreStatesOf}
 
 states-committed : (v : BookView) (number : ℕ) (row : HistoryRow) (states : List TableState) → AreStatesOf v states → AreStatesOf (committed_in v number row) states
 states-committed v number row states are n m at =
@@ -44,19 +40,3 @@ states-kept-by-end old new t run (Err (end.NoSuchTicket unused)) states ok err a
 states-kept-by-end old new t run (Err (end.NotAborted unused)) states ok err are = subst (λ (v : BookView). AreStatesOf v states) (sym err.0.unchanged) are
 states-kept-by-end old new t run (Err (end.ForeignRun place unused)) states ok err are = subst (λ (v : BookView). AreStatesOf v states) (sym err.0.unchanged) are
 states-kept-by-end old new t run (Err (end.Memory unused)) states ok err are = subst (λ (v : BookView). AreStatesOf v states) (sym err.0.unchanged) are
-
--- of a run with a look the state is known
-pub still-known :
-    (states : List TableState) (start : ℕ) (run : RunView) (region : Region) (rows : TableState) → IsFoundIn states start run → IsFoundLast run.looks region (Some rows) →
-    IsKnown states start
-still-known states start run region rows is last = is.known (λ none. let never = sym (ap last_look none) ∙ last in absurd (cc))
-
--- the rows of the last look of a run are of its region
-pub rows-of-last :
-    (states : List TableState) (start : ℕ) (run : RunView) (region : Region) (rows : TableState) → IsFoundIn states start run → IsFoundLast run.looks region (Some rows) →
-    ((m : TableState) → AreFound m run.looks → rows ≡ rows_in region m) → AreRowsOf region rows
-rows-of-last states start run region rows is last held = go (slice_get states start) refl (still-known states start run region rows is last)
-  where
-    go : (o : Option TableState) → slice_get states start ≡ o → IsSome o → AreRowsOf region rows
-    go None at known = absurd (cc)
-    go (Some m) at known = subst (AreRowsOf region) (sym (held m (is.found m at))) (filter_passes (λ row. is_in region row.0) m)

@@ -21,7 +21,7 @@ use Rattle.job_list.specs.declared.job.Job.{Job}
 use Rattle.job_list.specs.declared.job.JobOutcome.{JobOutcome}
 use Rattle.si_workers.specs.declared.run.Finished.{Finished}
 use Rattle.si_workers.specs.declared.run.Worked.{Worked}
-use Rattle.si_workers.specs.declared.worker.Done.{Done}
+use Rattle.job_worker.specs.declared.worker.Done.{Done}
 
 -- a book over a set without a dangerous structure is over such a set
 safe-over : (given : Assigned) (v : BookView) → IsOver given v → (IsDangerous (paths_of given.set) → ⊥) → IsDangerous (paths_of (draft_tree v.set)) → ⊥

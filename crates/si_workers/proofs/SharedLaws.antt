@@ -1,15 +1,12 @@
 -- What the contracts of a book say of the arguments and the results of its calls alone.
-use Rattle.std.proofs.Common.{◌≡◌, ℕ, ◌==◌, Bool, true, false, not, cond, List, length, Option, Some, None, Result, Ok, Err, IfOk, IfErr, ap, ◌∙◌, sym, subst, arith}
+use Rattle.std.proofs.Common.{◌≡◌, ℕ, ◌==◌, Bool, true, false, not, cond, List, length, Option, Some, None, Result, Ok, Err, IfOk, IfErr, sym, subst, arith}
 use Rattle.std.proofs.lemmas.List.Elements.{filter_passes}
-use Rattle.std.proofs.lemmas.List.Sums.{list_all-from_AllPass}
 use Rattle.std.specs.Option.{option_map}
 use Rattle.std.specs.Prelude.{ℤ, OnOk}
 use Rattle.prog_tree.specs.declared.cell.Region.{Region}
 use Rattle.prog_tree.specs.declared.program.Program.{Program}
 use Rattle.prog_tree.specs.Table.{TableState, is_in, rows_in}
-use Rattle.prog_run.specs.declared.fault.AnswerFault.TheVariants.{BadRows}
-use Rattle.prog_run.specs.declared.next.Next.{Next}
-use Rattle.prog_run.specs.View.{RunView, asked_region, scan_fault}
+use Rattle.prog_run.specs.View.{RunView}
 use Rattle.history_book.specs.Refusals.{IsCommitFault, IsEndFault, IsRegionRead, IsWithdrawal}
 use Rattle.history_book.specs.Runs.{IsAborted, IsCommitted}
 use Rattle.history_book.specs.Ticket.{TicketView}
@@ -23,7 +20,8 @@ use Rattle.history_book.specs.declared.fault.EndFault.TheVariants as end
 use Rattle.history_book.specs.declared.fault.ScanFault.{ScanFault}
 use Rattle.history_book.specs.History.{Instance}
 use Rattle.si_workers.specs.Freshness.{IsOfNoNumber}
-use Rattle.si_workers.specs.HandedIn.{AreRowsOf, IsCommitAnswer, IsEndAnswer}
+use Rattle.si_workers.specs.HandedIn.{IsCommitAnswer, IsEndAnswer}
+use Rattle.job_worker.specs.KnownStates.{AreRowsOf}
 
 -- ---- begins
 
@@ -69,13 +67,6 @@ read-of-region v t region r read = go (active_at v t) r read
     go (Some i) (Ok rows) is =
         subst (AreRowsOf region) (sym is) (filter_passes (λ row. is_in region row.0) (state_in v i.start))
     go (Some i) (Err fault) is = tt
-
--- a run that asks for a region takes rows of it
-pub no_fault :
-    (asked : Option Next) (region : Region) (rows : TableState) → asked_region asked ≡ Some region → AreRowsOf region rows →
-    scan_fault (asked_region asked) rows ≡ None
-no_fault asked region rows asks all =
-    ap (λ (r : Option Region). scan_fault r rows) asks ∙ ap (λ b. cond b None (Some BadRows)) (list_all-from_AllPass (λ row. is_in region row.0) rows all)
 
 -- ---- commits, ends and withdrawals
 

@@ -14,7 +14,8 @@ use Rattle.history_book.proofs.Vectors.{cell, opening}
 use Rattle.si_workers.specs.Calls.{call_of, is_same_call}
 use Rattle.si_workers.specs.KeptAndTold.{Tidings}
 use Rattle.si_workers.specs.Assigned.{assigned}
-use Rattle.si_workers.specs.Outcomes.{AreRightTries, Correspond, IsBroken, IsOfSomeJob, Stands, nearly_full}
+use Rattle.si_workers.specs.Outcomes.{Correspond, IsBroken, IsOfSomeJob, Stands, nearly_full}
+use Rattle.job_worker.specs.Work.{AreRightTries}
 use Rattle.job_list.specs.declared.job.Job.{Job}
 use Rattle.job_list.specs.declared.job.JobEnd.{JobEnd}
 use Rattle.job_list.specs.declared.job.JobEnd.TheVariants as end

@@ -4,7 +4,8 @@ use Rattle.std.specs.Option.{option_map}
 use Rattle.job_list.specs.declared.job.JobOutcome.{JobOutcome}
 use Rattle.si_workers.specs.declared.told.ToldOfJob.{ToldOfJob}
 use Rattle.si_workers.specs.declared.told.ToldOfJob.TheVariants.{Nothing, Once, Often}
-use Rattle.si_workers.specs.Told.{Report, outcomes_of}
+use Rattle.si_workers.specs.Told.{outcomes_of}
+use Rattle.job_worker.specs.Work.{Report}
 
 -- one more outcome was told
 abbrev pub with_one : ToldOfJob → JobOutcome → ToldOfJob

@@ -1,9 +1,7 @@
--- Calls that read rows or end an instance, by what is handed in and what is answered alone: of a book that threads
+-- Calls that end an instance, by what is handed in and what is answered alone: of a book that threads
 -- share, no clause names more.
-use Rattle.std.specs.Prelude.{◌≡◌, ◌≢◌, ℕ, ◌<◌, true, All, Some, Result, Ok, Err}
+use Rattle.std.specs.Prelude.{◌≡◌, ◌≢◌, ℕ, ◌<◌, Some, Result, Ok, Err}
 use Rattle.prog_tree.specs.declared.deed.End.TheVariants.{Ready}
-use Rattle.prog_tree.specs.declared.cell.Region.{Region}
-use Rattle.prog_tree.specs.Table.{TableState, is_in}
 use Rattle.prog_run.specs.View.{RunView}
 use Rattle.history_book.specs.Refusals.{HasAborted, IsHandedBack}
 use Rattle.history_book.specs.Ticket.{TicketView}
@@ -11,10 +9,6 @@ use Rattle.history_book.specs.declared.fault.CommitFault.{CommitFault}
 use Rattle.history_book.specs.declared.fault.CommitFault.TheVariants as commit
 use Rattle.history_book.specs.declared.fault.EndFault.{EndFault}
 use Rattle.history_book.specs.declared.fault.EndFault.TheVariants as end
-
--- each row is one of the region
-abbrev pub AreRowsOf : Region → TableState → Type 0
-AreRowsOf region rows = All (λ row. is_in region row.0 ≡ true) rows
 
 -- an instance commits or clashes by a run that is ready, and commits are numbered from 1; else both are handed back
 abbrev pub IsCommitAnswer : TicketView → RunView → Result ℕ CommitFault → Type 0

@@ -4,7 +4,3 @@ use Rattle.std.specs.Prelude.{ℕ}
 -- the most workers that run at once
 abbrev pub most_workers : ℕ
 most_workers = 8
-
--- the most jobs
-abbrev pub most_jobs : ℕ
-most_jobs = 100000

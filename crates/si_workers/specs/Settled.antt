@@ -16,7 +16,7 @@ use Rattle.si_workers.specs.declared.run.Compared.{Compared}
 use Rattle.si_workers.specs.declared.run.Compared.TheVariants as compared
 use Rattle.si_workers.specs.declared.run.Finished.{Finished}
 use Rattle.si_workers.specs.declared.run.Worked.{Worked}
-use Rattle.si_workers.specs.declared.worker.Done.{Done}
+use Rattle.job_worker.specs.declared.worker.Done.{Done}
 
 -- memory ran out in some worker
 abbrev pub lack_memory : List Done → Bool

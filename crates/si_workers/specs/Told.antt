@@ -3,10 +3,7 @@ use Rattle.std.specs.Prelude.{◌≡◌, ℕ, ◌==◌, List, [], ◌∷◌, fla
 use Rattle.si_workers.specs.KeptAndTold.{Tidings}
 use Rattle.job_list.specs.declared.job.Job.{Job}
 use Rattle.job_list.specs.declared.job.JobOutcome.{JobOutcome}
-
--- a job by its number, and its outcome
-abbrev pub Report : Type 0
-Report = ℕ × JobOutcome
+use Rattle.job_worker.specs.Work.{Report}
 
 -- what was reported of a job
 abbrev pub outcomes_of : ℕ → List Report → List JobOutcome

@@ -2,7 +2,8 @@
 
 ghost use Rattle.std.specs.Prelude.{◌≡◌, ◌↔◌, All, IsTrue, IfOk, IfNone, IfSome};
 ghost use Rattle.si_workers.specs.Assigned.{assigned_by};
-ghost use Rattle.si_workers.specs.Outcomes.{AreCommitsTold, AreRightTries, Correspond, IsAllOfJobs};
+ghost use Rattle.si_workers.specs.Outcomes.{AreCommitsTold, Correspond, IsAllOfJobs};
+ghost use Rattle.job_worker.specs.Work.{AreRightTries};
 ghost use Rattle.si_workers.specs.Outcomes.{IsBroken, IsCommitOf, IsFirstFallen, IsNamedOnce};
 ghost use Rattle.si_workers.specs.Outcomes.{IsOfSomeJob, IsOver, IsRecordOf, IsRightEnd};
 ghost use Rattle.si_workers.specs.Outcomes.{IsRightRefusal, Stands, nearly_full};

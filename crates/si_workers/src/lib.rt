@@ -15,15 +15,14 @@ mod logged_book;
 mod notes;
 mod run;
 mod shared;
-mod stop;
 mod tally;
 mod threads;
 mod told;
-mod worker;
 
 pub use fault::{BeginAfterFault, WorkFault, WorkerFault};
 pub use gate::{Gate, Moment, NoGate};
 pub use job_list::{Job, JobEnd, JobList, JobOutcome, Way, read_jobs};
-pub use limits::{MAX_JOBS, MAX_WORKERS};
+pub use job_worker::MAX_JOBS;
+pub use limits::MAX_WORKERS;
 pub use run::{Finished, Worked, do_jobs, run_jobs};
 pub use shared::SharedBook;

@@ -3,12 +3,6 @@
 /// No more workers run at once.
 pub const MAX_WORKERS: usize = 8;
 
-/// No more jobs are taken.
-pub const MAX_JOBS: usize = 100_000;
-
-/// A worker gives up old versions after every so many jobs that it ended.
-pub const VACUUM_AFTER: usize = 16;
-
 /// How often the lock is tried before a thread sleeps until it is free. A hold takes some ten
 /// microseconds, so it is mostly over before a thread would have slept and woken.
 pub const TRIES: u32 = 2_000;

@@ -7,8 +7,8 @@
 ghost use Rattle.std.specs.Prelude.{◌≡◌, [], IfErr, IfOk, OnOk};
 ghost use Rattle.history_book.specs.TrueBook.{IsTrueBook};
 ghost use Rattle.si_workers.specs.Freshness.{IsOfNoNumber};
-ghost use Rattle.si_workers.specs.HandedIn.{AreRowsOf, IsCommitAnswer, IsEndAnswer};
-ghost use Rattle.si_workers.specs.KnownStates.{AreRowsAt, IsFoundIn, IsValueAt, IsKnown};
+ghost use Rattle.si_workers.specs.HandedIn.{IsCommitAnswer, IsEndAnswer};
+ghost use Rattle.job_worker.specs.KnownStates.{AreRowsOf, AreRowsAt, IsFoundIn, IsValueAt, IsKnown};
 
 use history_book::{
     BeginFault, Book, CommitFault, EndFault, NoSuchTicket, Receipt, ScanFault, Ticket, Unused,

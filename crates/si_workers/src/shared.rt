@@ -3,7 +3,8 @@
 ghost use Rattle.std.specs.Prelude.{◌≡◌, IfErr, IfOk};
 ghost use Rattle.history_book.specs.TrueBook.{IsTrueBook};
 ghost use Rattle.si_workers.specs.Freshness.{IsAtNumber, IsBeginAfter, IsFresh, IsOfNoNumber};
-ghost use Rattle.si_workers.specs.HandedIn.{AreRowsOf, IsCommitAnswer, IsEndAnswer};
+ghost use Rattle.si_workers.specs.HandedIn.{IsCommitAnswer, IsEndAnswer};
+ghost use Rattle.job_worker.specs.KnownStates.{AreRowsOf};
 
 use crate::fault::BeginAfterFault;
 use crate::lock::{reading, writing};

@@ -5,12 +5,12 @@ ghost use Rattle.job_counter.specs.Passes.{counter_of, left_of, name_of, numbers
 
 use crate::desk::Locked;
 use crate::gate::Gate;
-use crate::limits::{MAX_JOBS, MAX_WORKERS};
+use crate::limits::MAX_WORKERS;
 use crate::lock::reading;
 use crate::logged_book::SharedLoggedBook;
-use crate::worker::{Done, work};
 use job_counter::{Counter, Pass};
 use job_list::Job;
+use job_worker::{Done, MAX_JOBS, work};
 use prog_check::ProgramSet;
 use state_log::Naming;
 use std::alloc::{AllocError, Global};

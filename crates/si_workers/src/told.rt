@@ -6,8 +6,8 @@ ghost use Rattle.si_workers.specs.declared.told.ToldOfJob.TheVariants.{Nothing};
 ghost use Rattle.si_workers.specs.Gathered.{outcome_in, with_one, AreToldMore};
 ghost use Rattle.si_workers.specs.Told.{AreTold};
 
-use crate::worker::Done;
 use job_list::{Job, JobOutcome};
+use job_worker::Done;
 use std::alloc::{AllocError, Global};
 use std::marker::Model;
 

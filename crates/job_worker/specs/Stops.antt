@@ -3,8 +3,8 @@ use Rattle.history_book.specs.declared.fault.ScanFault.{ScanFault}
 use Rattle.history_book.specs.declared.fault.ScanFault.TheVariants as scan
 use Rattle.prog_run.specs.declared.fault.AnswerFault.{AnswerFault}
 use Rattle.prog_run.specs.declared.fault.AnswerFault.TheVariants as answer
-use Rattle.si_workers.specs.declared.stop.Stop.{Stop}
-use Rattle.si_workers.specs.declared.stop.Stop.TheVariants.{Lost, NoMemory}
+use Rattle.job_worker.specs.declared.stop.Stop.{Stop}
+use Rattle.job_worker.specs.declared.stop.Stop.TheVariants.{Lost, NoMemory}
 
 -- where a region is not read
 abbrev pub stop_of_scan : ScanFault → Stop

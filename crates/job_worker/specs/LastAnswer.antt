@@ -4,8 +4,8 @@ use Rattle.history_book.specs.declared.fault.BeginFault.{BeginFault}
 use Rattle.history_book.specs.declared.fault.CommitFault.{CommitFault}
 use Rattle.history_book.specs.declared.fault.CommitFault.TheVariants as commit
 use Rattle.history_book.specs.declared.fault.EndFault.{EndFault}
-use Rattle.si_workers.specs.declared.desk.Answer.{Answer}
-use Rattle.si_workers.specs.declared.desk.Answer.TheVariants as answer
+use Rattle.job_worker.specs.declared.desk.Answer.{Answer}
+use Rattle.job_worker.specs.declared.desk.Answer.TheVariants as answer
 use Rattle.job_list.specs.declared.job.JobEnd.{JobEnd}
 use Rattle.job_list.specs.declared.job.JobEnd.TheVariants as end
 

@@ -1,5 +1,5 @@
 use Rattle.std.proofs.Common.{◌≡◌, ◌+◌, ◌<◌}
-use Rattle.si_workers.proofs.worker.run_job.Given as goal
+use Rattle.job_worker.proofs.worker.run_job.Given as goal
 
 abbrev pub invariant-loop-clashes : goal.invariant-loop-clashes
 invariant-loop-clashes g l = record {

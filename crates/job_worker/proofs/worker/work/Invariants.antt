@@ -1,6 +1,6 @@
 use Rattle.std.proofs.Common.{◌≡◌, ◌≤◌, ◌*◌, ◌^◌, map}
 use Rattle.job_counter.specs.Passes.{counter_of, numbers_of}
-use Rattle.si_workers.proofs.worker.work.Given as goal
+use Rattle.job_worker.proofs.worker.work.Given as goal
 
 abbrev pub invariant-loop-turn : goal.invariant-loop-turn
 invariant-loop-turn g l = record {

@@ -5,10 +5,10 @@ use Rattle.prog_tree.specs.Table.{TableState}
 use Rattle.prog_run.specs.Looks.{IsFoundLast}
 use Rattle.prog_run.specs.View.{asked_region}
 use Rattle.history_book.proofs.ReplayLaws.{answered_region, found_region}
-use Rattle.si_workers.specs.HandedIn.{AreRowsOf}
-use Rattle.si_workers.proofs.KnownLaws.{rows-of-last, still-known}
-use Rattle.si_workers.proofs.SharedLaws.{no_fault}
-use Rattle.si_workers.proofs.worker.answer_region.Goals as goal
+use Rattle.job_worker.specs.KnownStates.{AreRowsOf}
+use Rattle.job_worker.proofs.FoundLaws.{rows-of-last, still-known}
+use Rattle.job_worker.proofs.FoundLaws.{no_fault}
+use Rattle.job_worker.proofs.worker.answer_region.Goals as goal
 
 pub answer_rows-requires : goal.answer_rows-requires
 answer_rows-requires g c =

@@ -15,7 +15,7 @@ pub enum Stop {
 
 impl From<AllocError> for Stop {
     ghost use Rattle.std.specs.Prelude.{◌≡◌};
-    ghost use Rattle.si_workers.specs.declared.stop.Stop.TheVariants.{NoMemory};
+    ghost use Rattle.job_worker.specs.declared.stop.Stop.TheVariants.{NoMemory};
 
     ghost from_gives = { λ _ e. e ≡ NoMemory };
 
@@ -26,7 +26,7 @@ impl From<AllocError> for Stop {
 
 impl From<NoSuchTicket> for Stop {
     ghost use Rattle.std.specs.Prelude.{◌≡◌};
-    ghost use Rattle.si_workers.specs.declared.stop.Stop.TheVariants.{Lost};
+    ghost use Rattle.job_worker.specs.declared.stop.Stop.TheVariants.{Lost};
 
     ghost from_gives = { λ _ e. e ≡ Lost };
 
@@ -37,7 +37,7 @@ impl From<NoSuchTicket> for Stop {
 
 impl From<ScanFault> for Stop {
     ghost use Rattle.std.specs.Prelude.{◌≡◌};
-    ghost use Rattle.si_workers.specs.Stops.{stop_of_scan};
+    ghost use Rattle.job_worker.specs.Stops.{stop_of_scan};
 
     ghost from_gives = { λ fault e. e ≡ stop_of_scan fault };
 
@@ -51,7 +51,7 @@ impl From<ScanFault> for Stop {
 
 impl From<AnswerFault> for Stop {
     ghost use Rattle.std.specs.Prelude.{◌≡◌};
-    ghost use Rattle.si_workers.specs.Stops.{stop_of_answer};
+    ghost use Rattle.job_worker.specs.Stops.{stop_of_answer};
 
     ghost from_gives = { λ fault e. e ≡ stop_of_answer fault };
 

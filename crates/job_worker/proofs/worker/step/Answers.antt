@@ -2,7 +2,7 @@ use Rattle.std.proofs.Common.{◌∙◌, ap, subst, sym}
 use Rattle.prog_run.specs.Looks.{AreFound}
 use Rattle.prog_run.specs.Step.{question_after}
 use Rattle.history_book.proofs.ReplayLaws.{answered_cell, found_cell}
-use Rattle.si_workers.proofs.worker.step.Goals as goal
+use Rattle.job_worker.proofs.worker.step.Goals as goal
 
 pub returns-in_ok-answer_get-in-Get-clause-found : goal.returns-in_ok-answer_get-in-Get-clause-found
 returns-in_ok-answer_get-in-Get-clause-found g c =

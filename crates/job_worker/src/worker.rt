@@ -4,11 +4,11 @@ ghost use Rattle.std.specs.Prelude.{◌≡◌, ◌+◌, ◌<◌, ◌≤◌, ◌^
 ghost use Rattle.prog_tree.specs.declared.deed.End.TheVariants.{Ready};
 ghost use Rattle.prog_run.specs.declared.next.Next.TheVariants.{Scan};
 ghost use Rattle.job_counter.specs.Passes.{counter_of, name_of, numbers_of};
-ghost use Rattle.si_workers.specs.Ended.{ended_by_try};
-ghost use Rattle.si_workers.specs.KnownStates.{IsFoundIn};
-ghost use Rattle.si_workers.specs.LastAnswer.{IsLastAnswer};
-ghost use Rattle.si_workers.specs.Work.{AreDrawn, HasCause, HasReplies, IsDrawn, IsReported};
-ghost use Rattle.si_workers.specs.Work.{TellsTries};
+ghost use Rattle.job_worker.specs.Ended.{ended_by_try};
+ghost use Rattle.job_worker.specs.KnownStates.{IsFoundIn};
+ghost use Rattle.job_worker.specs.LastAnswer.{IsLastAnswer};
+ghost use Rattle.job_worker.specs.Work.{AreDrawn, HasCause, HasReplies, IsDrawn, IsReported};
+ghost use Rattle.job_worker.specs.Work.{TellsTries};
 
 use crate::desk::Desk;
 use crate::limits::{MAX_JOBS, VACUUM_AFTER};
@@ -186,8 +186,8 @@ fn try_once<'a, D: Desk<'a>>(
     }
 }
 
-/// A job, begun anew where it clashes, up to its retries.
-pub(crate) fn run_job<'a, D: Desk<'a>>(
+// A job, begun anew where it clashes, up to its retries.
+fn run_job<'a, D: Desk<'a>>(
     alloc: Global,
     set: &'a ProgramSet,
     desk: &mut D,
@@ -250,7 +250,7 @@ fn draw_job<'a, D: Desk<'a>>(
 }
 
 /// Draws jobs and runs them, until none is left.
-pub(crate) fn work<'a, D: Desk<'a>>(
+pub fn work<'a, D: Desk<'a>>(
     alloc: Global,
     set: &'a ProgramSet,
     desk: &mut D,
