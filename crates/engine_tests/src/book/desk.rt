@@ -31,7 +31,7 @@ const FIRST_TEN: Region = Region {
 impl<'a> Desk<'a> {
     fn take(&mut self, ticket: Ticket) -> Answer {
         let answer = Answer::Begun(ticket.number(), ticket.start());
-        drop(self.ticket.replace(ticket));
+        self.ticket = Some(ticket);
         answer
     }
 

@@ -1,5 +1,7 @@
 //! Commits and ends of a book, with plain answers and the ticket that comes back.
 
+ghost use Rattle.history_book.specs.Refusals.{IsFoundBy};
+
 use crate::book::answer::Answer;
 use history_book::{Book, CommitFault, EndFault, Ending, Ticket, Unused};
 use prog_run::Run;
@@ -28,6 +30,16 @@ pub fn commit<'a>(book: &mut Book<'a>, ticket: Ticket, run: Run<'a>) -> (Answer,
     }
 }
 
+/// Commits a run that looked at nothing but what its snapshot holds.
+pub fn commit_found<'a>(book: &mut Book<'a>, ticket: Ticket, run: Run<'a>) -> Answer
+    requires { IsFoundBy book.old ticket run }
+{
+    match book.commit_found(ticket, run) {
+        Ok(receipt) => Answer::Committed(receipt.number()),
+        Err(fault) => commit_refused(fault).0,
+    }
+}
+
 fn end_refused(fault: EndFault<'_>) -> (Answer, Option<Ticket>) {
     match fault {
         EndFault::NoSuchTicket(unused) => (Answer::NoSuchTicket, ticket_of(unused)),
@@ -42,6 +54,16 @@ pub fn end<'a>(book: &mut Book<'a>, ticket: Ticket, run: Run<'a>) -> (Answer, Op
     match book.end(ticket, run) {
         Ok(()) => (Answer::Aborted, None),
         Err(fault) => end_refused(fault),
+    }
+}
+
+/// Ends an instance by a run that has aborted, and looked at nothing but what its snapshot holds.
+pub fn end_found<'a>(book: &mut Book<'a>, ticket: Ticket, run: Run<'a>) -> Answer
+    requires { IsFoundBy book.old ticket run }
+{
+    match book.end_found(ticket, run) {
+        Ok(()) => Answer::Aborted,
+        Err(fault) => end_refused(fault).0,
     }
 }
 

@@ -5,10 +5,10 @@ ghost use Rattle.prog_run.specs.Step.{end_after};
 ghost use Rattle.history_book.specs.Refusals.{IsFoundBy, IsOfInstance};
 
 use crate::book::answer::Answer;
-use crate::book::endings::ending;
+use crate::book::endings::{commit_found, end_found, ending};
 use crate::book::sets::{LOOK, REGISTERS, STOP, cell};
 use example_sets::set_of;
-use history_book::{Book, Ticket};
+use history_book::{Book, OwnCommitFault, Ticket};
 use prog_check::ProgramSet;
 use prog_run::{Next, Run};
 use prog_tree::{Deed, End, Rows};
@@ -42,15 +42,46 @@ fn advance(rt: &impl Abort, book: &mut Book<'_>, ticket: &Ticket, run: &mut Run<
     book.advance(ticket, run).expect(rt, "memory")
 }
 
+// Whether a run's next statement found nothing in `t[1]`.
+fn finds_nothing(rt: &impl Abort, book: &mut Book<'_>, ticket: &Ticket, run: &mut Run<'_>) -> bool
+    requires { IsOfInstance book.old ticket.now run.old }
+    ensures { IsOfInstance book.new ticket.now run.new }
+{
+    advance(rt, book, ticket, run) == Next::Did(Deed::Read(cell(0, 1), None))
+}
+
+// Commits a run that has no statement left.
+fn commit_own(rt: &impl Abort, book: &mut Book<'_>, ticket: &Ticket, run: &mut Run<'_>) -> Answer
+    requires { IsOfInstance book.old ticket.now run.old }
+{
+    let Next::Done(End::Ready) = advance(rt, book, ticket, run) else {
+        return Answer::WrongEnd;
+    };
+    match book.commit_own(ticket, run) {
+        Ok(receipt) => Answer::Committed(receipt.number()),
+        Err(OwnCommitFault::Clashed(clash)) => Answer::Clashed(clash.number),
+        Err(OwnCommitFault::Memory) => Answer::Memory,
+    }
+}
+
+// Ends the instance of a run that aborts next.
+fn end_own(rt: &impl Abort, book: &mut Book<'_>, ticket: &Ticket, run: &mut Run<'_>) -> Answer
+    requires { IsOfInstance book.old ticket.now run.old }
+{
+    let Next::Done(End::Aborted(_)) = advance(rt, book, ticket, run) else {
+        return Answer::WrongEnd;
+    };
+    match book.end_own(ticket, run) {
+        Ok(()) => Answer::Aborted,
+        Err(_) => Answer::Memory,
+    }
+}
+
 fn look(rt: &impl Abort, alloc: Global, set: &ProgramSet) {
     let (mut book, ticket, mut run) = begun(rt, alloc, set, LOOK, &[1]);
-    let read = advance(rt, &mut book, &ticket, &mut run);
-    assert!(rt; read == Next::Did(Deed::Read(cell(0, 1), None)));
-    let Next::Done(End::Ready) = advance(rt, &mut book, &ticket, &mut run) else {
-        panic!(rt; "the run is not ready")
-    };
-    let receipt = book.commit_own(&ticket, &run).expect(rt, "a commit");
-    assert!(rt; receipt.number() == 1);
+    assert!(rt; finds_nothing(rt, &mut book, &ticket, &mut run));
+    let answer = commit_own(rt, &mut book, &ticket, &mut run);
+    assert!(rt; answer == Answer::Committed(1));
     assert!(rt; ending(&book, 0) == Answer::Committed(1));
 }
 
@@ -64,10 +95,8 @@ fn a_run_that_is_ready_commits_its_instance(rt: HostRuntime) -> Result<(), Fail>
 
 fn stop(rt: &impl Abort, alloc: Global, set: &ProgramSet) {
     let (mut book, ticket, mut run) = begun(rt, alloc, set, STOP, &[]);
-    let Next::Done(End::Aborted(_)) = advance(rt, &mut book, &ticket, &mut run) else {
-        panic!(rt; "the run has not aborted")
-    };
-    book.end_own(&ticket, &run).expect(rt, "memory");
+    let answer = end_own(rt, &mut book, &ticket, &mut run);
+    assert!(rt; answer == Answer::Aborted);
     assert!(rt; ending(&book, 0) == Answer::Aborted);
     assert!(rt; book.commits() == 0);
 }
@@ -80,14 +109,19 @@ fn a_run_that_aborted_ends_its_instance(rt: HostRuntime) -> Result<(), Fail> {
     Ok(())
 }
 
+// Makes two statements of a run, or those that it has.
+fn advance_twice(rt: &impl Abort, book: &mut Book<'_>, ticket: &Ticket, run: &mut Run<'_>)
+    requires { IsOfInstance book.old ticket.now run.old }
+    ensures { IsFoundBy book.new ticket.now run.new }
+{
+    advance(rt, book, ticket, run);
+    advance(rt, book, ticket, run);
+}
+
 fn look_found(rt: &impl Abort, alloc: Global, set: &ProgramSet) {
     let (mut book, ticket, mut run) = begun(rt, alloc, set, LOOK, &[1]);
-    let _read = advance(rt, &mut book, &ticket, &mut run);
-    let _end = advance(rt, &mut book, &ticket, &mut run);
-    let Ok(receipt) = book.commit_found(ticket, run) else {
-        panic!(rt; "the run is refused")
-    };
-    assert!(rt; receipt.number() == 1);
+    advance_twice(rt, &mut book, &ticket, &mut run);
+    assert!(rt; commit_found(&mut book, ticket, run) == Answer::Committed(1));
     assert!(rt; ending(&book, 0) == Answer::Committed(1));
 }
 
@@ -101,8 +135,8 @@ fn a_run_whose_looks_are_known_commits_its_instance(rt: HostRuntime) -> Result<(
 
 fn stop_found(rt: &impl Abort, alloc: Global, set: &ProgramSet) {
     let (mut book, ticket, mut run) = begun(rt, alloc, set, STOP, &[]);
-    let _end = advance(rt, &mut book, &ticket, &mut run);
-    assert!(rt; book.end_found(ticket, run).is_ok());
+    advance(rt, &mut book, &ticket, &mut run);
+    assert!(rt; end_found(&mut book, ticket, run) == Answer::Aborted);
     assert!(rt; ending(&book, 0) == Answer::Aborted);
     assert!(rt; book.commits() == 0);
 }
