@@ -6,7 +6,7 @@ ghost use Rattle.job_counter.specs.Passes.{counter_of, name_of};
 use job_counter::{Counter, Pass};
 use std::alloc::{AllocError, Global};
 use std::process::Abort;
-use std::thread;
+use std::thread::{self, Threads};
 
 #[test]
 fn three_numbers(rt: HostRuntime) -> Result<(), AllocError> {
@@ -40,54 +40,46 @@ fn drawn(alloc: Global, counter: &Counter, pass: &mut Pass) -> Result<Vec<u64>, 
     Ok(numbers)
 }
 
-// The same, with the pass behind its draws. No pass is dropped, also where memory runs out.
-fn draw_all(
-    alloc: Global,
-    counter: &Counter,
-    mut pass: Pass,
-) -> (Pass, Result<Vec<u64>, AllocError>)
-    requires { counter_of pass ≡ name_of counter.now }
-    ensures { counter_of result.0 ≡ counter_of pass }
-{
-    let numbers = drawn(alloc, counter, &mut pass);
-    (pass, numbers)
+// Whether these are the numbers below a bound, each once.
+fn are_each_once(numbers: &[u64], bound: u64) -> bool {
+    numbers.iter().copied().eq(0..bound)
 }
 
-// How often each number below 1000 was drawn.
-fn times_drawn(rt: &impl Abort, alloc: Global, numbers: &[u64], others: &[u64]) -> Vec<u32> {
-    let mut times = vec![in alloc; 0u32; 1000].expect(rt, "memory");
-    for &number in numbers.iter().chain(others.iter()) {
-        let count = times
-            .get_mut(number as usize)
-            .expect(rt, "below the budget");
-        *count = count.saturating_add(1);
-    }
-    times
+// Asserts that two workers drew so many numbers each, and all together each number once.
+fn check_drawn(rt: &impl Abort, numbers: &mut Vec<u64>, others: &[u64]) -> Result<(), AllocError> {
+    assert!(rt; [numbers.len(), others.len()] == [500, 500]);
+    numbers.extend_from_slice(others)?;
+    numbers.sort()?;
+    assert!(rt; are_each_once(numbers, 1000));
+    Ok(())
+}
+
+// What both passes draw, each by a thread of its own.
+fn drawn_by_two(
+    rt: &(impl Threads + Sync),
+    alloc: Global,
+    counter: &Counter,
+    first: &mut Pass,
+    second: &mut Pass,
+) -> (Result<Vec<u64>, AllocError>, Result<Vec<u64>, AllocError>)
+    requires first { counter_of first.old ≡ name_of counter.now }
+    requires second { counter_of second.old ≡ name_of counter.now }
+    ensures first { counter_of first.new ≡ counter_of first.old }
+    ensures second { counter_of second.new ≡ counter_of second.old }
+{
+    thread::join_mut(
+        rt,
+        &mut || drawn(alloc, counter, first),
+        &mut || drawn(alloc, counter, second),
+    )
 }
 
 #[test]
 fn two_threads(rt: HostRuntime) -> Result<(), AllocError> {
-    let alloc: Global = rt.alloc();
-    let (counter, pass) = Counter::open(alloc, 1000)?;
-    let (first, second) = counter.split(pass, 500);
-    let shared = &counter;
-    let ((first, one), (second, other)) = thread::join(
-        &rt,
-        || -> (Pass, Result<Vec<u64>, AllocError>)
-            requires { counter_of first ≡ name_of shared.now }
-            ensures { counter_of result.0 ≡ name_of shared.entry.now }
-        { draw_all(alloc, shared, first) },
-        || -> (Pass, Result<Vec<u64>, AllocError>)
-            requires { counter_of second ≡ name_of shared.now }
-            ensures { counter_of result.0 ≡ name_of shared.entry.now }
-        { draw_all(alloc, shared, second) },
-    );
+    let (counter, pass) = Counter::open(rt.alloc(), 1000)?;
+    let (mut first, mut second) = counter.split(pass, 500);
+    let (one, other) = drawn_by_two(&rt, rt.alloc(), &counter, &mut first, &mut second);
     let pass = counter.join(first, second);
     assert!(rt; counter.close(pass) == 1000);
-    let numbers = one.expect(&rt, "memory");
-    let others = other.expect(&rt, "memory");
-    assert!(rt; numbers.len() == 500 && others.len() == 500);
-    let times = times_drawn(&rt, alloc, &numbers, &others);
-    assert!(rt; times.iter().all(|&count| count == 1));
-    Ok(())
+    check_drawn(&rt, &mut one?, &other?)
 }

@@ -1,59 +1,90 @@
-//! Questions, samples and dangerous structures as texts.
+//! Questions, samples and dangerous structures, told by numbers.
 
 use crate::examples::SKEW;
 use dep_graph::{Danger, Exposure};
 use example_sets::{PAY, REPORT, SMALL_BANK};
 use order_facts::{Node, Sample};
 use prog_paths::Question;
-use std::alloc::{AllocError, Global};
+
+/// A path's number, and an access's number in it.
+pub type Place = (usize, usize);
+
+/// The questions of the two edges of a dangerous structure, each by its paths and accesses, and the
+/// way back. All parameters of their samples are 0.
+pub struct Structure {
+    pub first: (Place, Place),
+    pub second: (Place, Place),
+    pub back: &'static [usize],
+}
 
 /// Sets, and their least dangerous structures.
-pub const DANGEROUS: [(&str, &str); 4] = [
+pub const DANGEROUS: [(&str, Structure); 4] = [
     (
         SKEW,
-        "0 1, 1 2 0 0 0 0 0 0 / 1 0, 0 2 0 0 0 0 0 0 / back [0]",
+        Structure {
+            first: ((0, 1), (1, 2)),
+            second: ((1, 0), (0, 2)),
+            back: &[0],
+        },
     ),
     (
         SMALL_BANK,
-        "0 1, 4 2 0 0 0 0 0 0 / 4 0, 2 1 0 0 0 0 0 0 / back [2, 0]",
+        Structure {
+            first: ((0, 1), (4, 2)),
+            second: ((4, 0), (2, 1)),
+            back: &[2, 0],
+        },
     ),
     (
         REPORT,
-        "2 1, 0 1 0 0 0 0 0 0 / 0 0, 1 0 0 0 0 0 0 0 / back [1, 2]",
+        Structure {
+            first: ((2, 1), (0, 1)),
+            second: ((0, 0), (1, 0)),
+            back: &[1, 2],
+        },
     ),
     (
         PAY,
-        "0 0, 0 1 0 0 0 0 0 0 / 0 0, 0 1 0 0 0 0 0 0 / back [0]",
+        Structure {
+            first: ((0, 0), (0, 1)),
+            second: ((0, 0), (0, 1)),
+            back: &[0],
+        },
     ),
 ];
 
-/// Both accesses of a question, each by its path and its number there.
-pub fn push_question(text: &mut String, question: &Question) -> Result<(), AllocError> {
-    let Question { x, a, y, b, .. } = question;
-    write!(text, "{x} {a}, {y} {b}")
+/// The places of both accesses of a question.
+pub fn places_of(question: &Question) -> (Place, Place) {
+    ((question.x, question.a), (question.y, question.b))
 }
 
-/// The numbers of three parameters of each side, mine before theirs.
-pub fn push_sample(text: &mut String, sample: &Sample) -> Result<(), AllocError> {
-    for number in 0..3 {
-        let mine = sample.get(Node::Mine(number));
-        let theirs = sample.get(Node::Theirs(number));
-        write!(text, " {mine} {theirs}")?;
+/// Three parameters of each side, mine before theirs.
+const PARAMETERS: [Node; 6] = [
+    Node::Mine(0),
+    Node::Theirs(0),
+    Node::Mine(1),
+    Node::Theirs(1),
+    Node::Mine(2),
+    Node::Theirs(2),
+];
+
+/// Whether a sample gives these numbers to three parameters of each side, mine before theirs.
+pub fn is_sampled(sample: &Sample, numbers: &[i64; 6]) -> bool {
+    for (node, number) in PARAMETERS.iter().zip(numbers) {
+        if sample.get(*node) != *number {
+            return false;
+        }
     }
-    Ok(())
+    true
 }
 
-fn push_exposure(text: &mut String, exposure: &Exposure) -> Result<(), AllocError> {
-    push_question(text, &exposure.question)?;
-    push_sample(text, &exposure.sample)?;
-    text.push_str(" / ")
+fn is_exposure(exposure: &Exposure, places: (Place, Place)) -> bool {
+    places_of(&exposure.question) == places && is_sampled(&exposure.sample, &[0; 6])
 }
 
-/// The two questions, with their samples, and the way back of a danger.
-pub fn shown(alloc: Global, danger: &Danger) -> Result<String, AllocError> {
-    let mut text = String::new(alloc);
-    push_exposure(&mut text, &danger.first)?;
-    push_exposure(&mut text, &danger.second)?;
-    write!(text, "back {:?}", danger.back.as_slice())?;
-    Ok(text)
+/// Whether a danger is this structure.
+pub fn is_structure(danger: &Danger, wanted: &Structure) -> bool {
+    is_exposure(&danger.first, wanted.first)
+        && is_exposure(&danger.second, wanted.second)
+        && danger.back.as_slice() == wanted.back
 }

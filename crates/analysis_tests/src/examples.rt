@@ -1,5 +1,9 @@
 //! Texts that several rooms take, and the committing paths of texts.
 
+ghost use Rattle.std.specs.Prelude.{All, IsTrue};
+ghost use Rattle.prog_paths.specs.Questions.{ChangesSingleCells};
+
+use conflict_pairs::changes_single_cells;
 use example_sets::set_of;
 use prog_paths::{Path, paths};
 use robust_cert::Certificate;
@@ -66,4 +70,11 @@ pub fn paths_of(alloc: Global, text: &str) -> Result<Vec<Path>, Fail> {
 pub fn wide_paths(alloc: Global, pairs: usize) -> Result<Vec<Path>, Fail> {
     let text = wide_text(alloc, pairs)?;
     paths_of(alloc, text.as_str())
+}
+
+/// Whether each path changes single cells, which tables ask of paths.
+pub fn change_single_cells(paths: &[Path]) -> bool
+    ensures { IsTrue result → All ChangesSingleCells paths.now }
+{
+    paths.iter().all(|path| changes_single_cells(path))
 }

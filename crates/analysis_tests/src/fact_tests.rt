@@ -154,10 +154,23 @@ fn chains_go_by_facts_and_by_numbers(rt: HostRuntime) {
     assert!(rt; is_chain(&IN_A_LIST, &[KEY, ONE, FIVE, C]));
     assert!(rt; !is_chain(&IN_A_LIST, &[KEY, C]));
     assert!(rt; !is_chain(&IN_A_LIST, &[]));
+}
+
+/// Of four pairs of nodes, whether there is a step from the first to the second.
+fn has_steps(closed: &Closed) -> [bool; 4] {
+    [
+        closed.has_step(KEY, ONE),
+        closed.has_step(ONE, FIVE),
+        closed.has_step(KEY, FIVE),
+        closed.has_step(ONE, KEY),
+    ]
+}
+
+#[test]
+fn facts_of_a_list_are_closed(rt: HostRuntime) {
     let closed = Closed::of(rt.alloc(), &IN_A_LIST).expect(&rt, "memory");
     assert!(rt; closed.entails(KEY, C) && !closed.entails(ONE, KEY));
-    assert!(rt; closed.has_step(KEY, ONE) && closed.has_step(ONE, FIVE));
-    assert!(rt; !closed.has_step(KEY, FIVE) && !closed.has_step(ONE, KEY));
+    assert!(rt; has_steps(&closed) == [true, true, false, false]);
     drop(closed);
 }
 
@@ -204,8 +217,16 @@ fn nodes_in_a_row_are_those_that_were_given(rt: HostRuntime) {
     let two = Nodes::of_two(KEY, A);
     assert!(rt; Nodes::of_one(TWO).as_slice() == [TWO].as_slice());
     assert!(rt; two.as_slice() == [KEY, A].as_slice());
-    let copy = Nodes::from_slice(rt.alloc(), two.as_slice()).expect(&rt, "memory");
+}
+
+#[test]
+fn nodes_in_a_row_are_copied(rt: HostRuntime) {
+    let copy = Nodes::from_slice(rt.alloc(), &[KEY, A]).expect(&rt, "memory");
     assert!(rt; copy.as_slice() == [KEY, A].as_slice());
+}
+
+#[test]
+fn nodes_in_a_row_are_made_of_a_vector(rt: HostRuntime) {
     let nodes = Vec::from_slice(rt.alloc(), &[ONE, B, C]).expect(&rt, "memory");
     assert!(rt; Nodes::from_vec(nodes).as_slice() == [ONE, B, C].as_slice());
 }

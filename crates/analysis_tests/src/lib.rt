@@ -22,5 +22,3 @@ mod paths;
 mod repairs;
 #[cfg(test)]
 mod square_tests;
-#[cfg(test)]
-mod told;

@@ -2,7 +2,7 @@
 
 use conflict_pairs::{Interner, intern_all};
 use std::alloc::{AllocError, Global};
-use std::test::Fail;
+use std::process::Abort;
 
 /// Numbers are alike where both are even or both are odd.
 struct Parity;
@@ -41,12 +41,16 @@ const EXAMPLES: [(&[u64], &[u64], &[u32]); 4] = [
     (&[], &[], &[]),
 ];
 
+/// Asserts which values are made for keys, and which number each key has.
+fn check(rt: &impl Abort, alloc: Global, keys: &[u64], values: &[u64], numbers: &[u32]) {
+    let interned = intern_all(alloc, &Parity, keys).expect(rt, "memory");
+    assert!(rt; interned.values.as_slice() == values);
+    assert!(rt; interned.numbers.as_slice() == numbers);
+}
+
 #[test]
-fn keys_that_are_alike_share_a_value(rt: HostRuntime) -> Result<(), Fail> {
+fn keys_that_are_alike_share_a_value(rt: HostRuntime) {
     for (keys, values, numbers) in EXAMPLES {
-        let interned = intern_all(rt.alloc(), &Parity, keys)?;
-        assert!(rt; interned.values.as_slice() == values);
-        assert!(rt; interned.numbers.as_slice() == numbers);
+        check(&rt, rt.alloc(), keys, values, numbers);
     }
-    Ok(())
 }

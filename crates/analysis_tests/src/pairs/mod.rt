@@ -2,5 +2,7 @@
 
 mod graph_tests;
 mod interning_tests;
+mod judge_tests;
+mod said;
 mod sets;
 mod verdict_tests;

@@ -1,22 +1,16 @@
 //! The tables of sets, and texts of sets that these tests alone take.
 
-use conflict_pairs::{
-    ClassTable, PairFault, PairTable, changes_single_cells, class_table, class_table_par, pairs,
-    pairs_par,
-};
+use crate::examples::change_single_cells;
+use conflict_pairs::{ClassTable, PairTable, class_table, class_table_par, pairs, pairs_par};
 use prog_paths::Path;
 use std::alloc::Global;
 use std::process::Abort;
 use std::thread::Threads;
 
 /// The table of all questions of some paths.
-pub fn table_of<'a>(
-    rt: &impl Abort,
-    alloc: Global,
-    paths: &'a [Path],
-) -> Result<PairTable<'a>, PairFault> {
-    assert!(rt; paths.iter().all(|path| changes_single_cells(path)));
-    pairs(alloc, paths)
+pub fn table_of<'a>(rt: &impl Abort, alloc: Global, paths: &'a [Path]) -> PairTable<'a> {
+    assert!(rt; change_single_cells(paths));
+    pairs(alloc, paths).expect(rt, "a table")
 }
 
 /// The same, as `pairs_par` makes it.
@@ -24,19 +18,15 @@ pub fn table_of_threads<'a>(
     rt: &(impl Abort + Threads + Sync),
     alloc: Global,
     paths: &'a [Path],
-) -> Result<PairTable<'a>, PairFault> {
-    assert!(rt; paths.iter().all(|path| changes_single_cells(path)));
-    pairs_par(rt, alloc, paths)
+) -> PairTable<'a> {
+    assert!(rt; change_single_cells(paths));
+    pairs_par(rt, alloc, paths).expect(rt, "a table")
 }
 
 /// What is told of all questions of some paths, class by class.
-pub fn class_table_of<'a>(
-    rt: &impl Abort,
-    alloc: Global,
-    paths: &'a [Path],
-) -> Result<ClassTable<'a>, PairFault> {
-    assert!(rt; paths.iter().all(|path| changes_single_cells(path)));
-    class_table(alloc, paths)
+pub fn class_table_of<'a>(rt: &impl Abort, alloc: Global, paths: &'a [Path]) -> ClassTable<'a> {
+    assert!(rt; change_single_cells(paths));
+    class_table(alloc, paths).expect(rt, "a table")
 }
 
 /// The same, as `class_table_par` makes it.
@@ -44,9 +34,9 @@ pub fn class_table_of_threads<'a>(
     rt: &(impl Abort + Threads + Sync),
     alloc: Global,
     paths: &'a [Path],
-) -> Result<ClassTable<'a>, PairFault> {
-    assert!(rt; paths.iter().all(|path| changes_single_cells(path)));
-    class_table_par(rt, alloc, paths)
+) -> ClassTable<'a> {
+    assert!(rt; change_single_cells(paths));
+    class_table_par(rt, alloc, paths).expect(rt, "a table")
 }
 
 /// A read and a write of one cell that stand in a body.

@@ -1,8 +1,7 @@
 //! What accesses ask of one another, and how many questions there are.
 
-use crate::dangers::push_question;
+use crate::dangers::{Place, places_of};
 use crate::examples::{paths_of, wide_paths};
-use crate::told::is_told;
 use example_sets::{KEPT_PAY, TRANSFER};
 use prog_paths::{
     Gives, Kind, Mark, Path, Placed, Question, all_places, asks, asks_read_write, gives_by,
@@ -96,38 +95,51 @@ fn questions_give_edges_by_their_kinds(rt: HostRuntime) {
     }
 }
 
+/// The places of two accesses of which the first asks of the second.
+type Asked = (Place, Place);
+
 /// What an access asks of others.
-fn push_asked(text: &mut String, first: &Placed, places: &[Placed]) -> Result<(), AllocError> {
+fn push_asked(asked: &mut Vec<Asked>, first: &Placed, places: &[Placed]) -> Result<(), AllocError> {
     for second in places {
         if asks(first, second) {
-            push_question(text, &question_between(first, second))?;
-            text.push_str("; ")?;
+            asked.push(places_of(&question_between(first, second)))?;
         }
     }
     Ok(())
 }
 
 /// What the accesses of paths ask of one another.
-fn shown_questions(alloc: Global, paths: &[Path]) -> Result<String, AllocError> {
+fn all_asked(alloc: Global, paths: &[Path]) -> Result<Vec<Asked>, AllocError> {
     let places = all_places(alloc, paths)?;
-    let mut text = String::new(alloc);
+    let mut asked = Vec::new(alloc);
     for first in &places {
-        push_asked(&mut text, first, &places)?;
+        push_asked(&mut asked, first, &places)?;
     }
-    Ok(text)
+    Ok(asked)
 }
 
 /// Each look of the transfer set may miss both puts, and each put meets those from itself on.
-const TRANSFERS: &str = "0 0, 0 1; 0 0, 0 3; 0 1, 0 1; 0 1, 0 3; 0 2, 0 1; 0 2, 0 3; 0 3, 0 3; ";
+const TRANSFERS: [Asked; 7] = [
+    ((0, 0), (0, 1)),
+    ((0, 0), (0, 3)),
+    ((0, 1), (0, 1)),
+    ((0, 1), (0, 3)),
+    ((0, 2), (0, 1)),
+    ((0, 2), (0, 3)),
+    ((0, 3), (0, 3)),
+];
+
+fn check_asked(rt: &impl Abort, alloc: Global, paths: &[Path]) {
+    let asked = all_asked(alloc, paths).expect(rt, "memory");
+    assert!(rt; asked.as_slice() == &TRANSFERS[..]);
+    assert!(rt; (question_count(paths), is_too_large(paths)) == (7, false));
+}
 
 #[test]
 fn looks_and_puts_ask(rt: HostRuntime) -> Result<(), Fail> {
     let paths = paths_of(rt.alloc(), TRANSFER)?;
-    let shown = shown_questions(rt.alloc(), &paths);
-    let counted = (question_count(&paths), is_too_large(&paths));
+    check_asked(&rt, rt.alloc(), &paths);
     drop(paths);
-    is_told(&rt, shown?.as_str(), TRANSFERS);
-    assert!(rt; counted == (7, false));
     Ok(())
 }
 

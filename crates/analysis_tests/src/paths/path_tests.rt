@@ -2,7 +2,6 @@
 
 use crate::examples::{paths_of, wide_paths};
 use crate::paths::shown::{shown, shown_path};
-use crate::told::is_told;
 use example_sets::{KEPT_PAY, LEDGER, MOVE, REPORT, SMALL_BANK, TRANSFER, set_of};
 use prog_paths::{Path, count_statements};
 use prog_tree::Draft;
@@ -15,7 +14,8 @@ fn check(rt: &impl Abort, alloc: Global, text: &str, wanted: &str) -> Result<(),
     let paths = paths_of(alloc, text)?;
     let shown = shown(alloc, &paths);
     drop(paths);
-    is_told(rt, shown?.as_str(), wanted);
+    let shown = shown?;
+    assert!(rt; shown.as_str() == wanted, "{shown}");
     Ok(())
 }
 

@@ -1,14 +1,14 @@
 //! The facts of questions.
 
+use crate::dangers::Place;
 use crate::examples::paths_of;
-use crate::told::is_told;
 use example_sets::{LEDGER, MOVE, SMALL_BANK, TRANSFER};
 use order_facts::{Closed, Fact, Node};
 use prog_paths::{
     Access, Changers, Column, Path, Placed, Term, all_places, closed_facts, column_or_zero,
     least_cover, mine_node, program_places, question_facts, second_terms, their_node,
 };
-use std::alloc::{AllocError, Global};
+use std::alloc::Global;
 use std::process::Abort;
 use std::test::Fail;
 
@@ -18,28 +18,29 @@ const MINE: Node = Node::Mine(0);
 /// facts say.
 struct Example {
     text: &'static str,
-    mine: (usize, usize),
-    theirs: (usize, usize),
+    mine: Place,
+    theirs: Place,
     is_consistent: bool,
     entailed: &'static [(Node, Node)],
     left_open: &'static [(Node, Node)],
 }
 
-fn access_at(paths: &[Path], place: (usize, usize)) -> Option<&Access> {
-    paths.get(place.0)?.accesses.as_slice().get(place.1)
+/// The accesses of the path of a number.
+fn accesses_of<'a>(rt: &impl Abort, paths: &'a [Path], node: usize) -> &'a [Access] {
+    let path = paths.get(node).expect(rt, "the path is there");
+    path.accesses.as_slice()
+}
+
+fn access_at<'a>(rt: &impl Abort, paths: &'a [Path], place: Place) -> &'a Access {
+    let accesses = accesses_of(rt, paths, place.0);
+    accesses.get(place.1).expect(rt, "the access is there")
 }
 
 /// The facts of the question between two accesses, closed.
-fn closed(
-    rt: &impl Abort,
-    alloc: Global,
-    paths: &[Path],
-    mine: (usize, usize),
-    theirs: (usize, usize),
-) -> Result<Closed, AllocError> {
-    let mine = access_at(paths, mine).expect(rt, "the access is there");
-    let theirs = access_at(paths, theirs).expect(rt, "the access is there");
-    closed_facts(alloc, mine, theirs)
+fn closed(rt: &impl Abort, alloc: Global, paths: &[Path], mine: Place, theirs: Place) -> Closed {
+    let mine = access_at(rt, paths, mine);
+    let theirs = access_at(rt, paths, theirs);
+    closed_facts(alloc, mine, theirs).expect(rt, "memory")
 }
 
 fn check_all(rt: &impl Abort, facts: &Closed, pairs: &[(Node, Node)], are_entailed: bool) {
@@ -58,10 +59,9 @@ fn compare(rt: &impl Abort, facts: &Closed, example: &Example) {
 fn check(rt: &impl Abort, alloc: Global, example: &Example) -> Result<(), Fail> {
     let paths = paths_of(alloc, example.text)?;
     let facts = closed(rt, alloc, &paths, example.mine, example.theirs);
-    drop(paths);
-    let facts = facts?;
     compare(rt, &facts, example);
     drop(facts);
+    drop(paths);
     Ok(())
 }
 
@@ -160,7 +160,7 @@ fn an_unknown_is_no_parameter(rt: HostRuntime) -> Result<(), Fail> {
 }
 
 /// Questions of sets, each by its two accesses, and the least pair that covers each.
-const COVERS: [(&str, (usize, usize), (usize, usize), Option<(usize, usize)>); 4] = [
+const COVERS: [(&str, Place, Place, Option<(usize, usize)>); 4] = [
     (TRANSFER, (0, 0), (0, 1), Some((1, 1))),
     (TRANSFER, (0, 0), (0, 3), Some((1, 3))),
     (TRANSFER, (0, 2), (0, 1), Some((3, 1))),
@@ -168,26 +168,20 @@ const COVERS: [(&str, (usize, usize), (usize, usize), Option<(usize, usize)>); 4
     (SMALL_BANK, (4, 0), (2, 1), None),
 ];
 
-/// The accesses of the path of a number.
-fn accesses_of<'a>(rt: &impl Abort, paths: &'a [Path], node: usize) -> &'a [Access] {
-    let path = paths.get(node).expect(rt, "the path is there");
-    path.accesses.as_slice()
-}
-
 /// The least pair that covers the question between two accesses.
 fn cover_of(
     rt: &impl Abort,
     alloc: Global,
     paths: &[Path],
-    mine: (usize, usize),
-    theirs: (usize, usize),
-) -> Result<Option<(usize, usize)>, AllocError> {
-    let facts = closed(rt, alloc, paths, mine, theirs)?;
+    mine: Place,
+    theirs: Place,
+) -> Option<(usize, usize)> {
+    let facts = closed(rt, alloc, paths, mine, theirs);
     let first = accesses_of(rt, paths, mine.0);
     let second = accesses_of(rt, paths, theirs.0);
     let cover = least_cover(&facts, first, second);
     drop(facts);
-    Ok(cover)
+    cover
 }
 
 #[test]
@@ -196,15 +190,15 @@ fn the_least_pair_of_changes_covers(rt: HostRuntime) -> Result<(), Fail> {
         let paths = paths_of(rt.alloc(), text)?;
         let cover = cover_of(&rt, rt.alloc(), &paths, mine, theirs);
         drop(paths);
-        assert!(rt; cover? == wanted, "{mine:?} {theirs:?} of {text}");
+        assert!(rt; cover == wanted, "{mine:?} {theirs:?} of {text}");
     }
     Ok(())
 }
 
 /// Whether these are the facts of an example, in this order.
 fn are_given(rt: &impl Abort, paths: &[Path], example: &Example, wanted: &[Fact]) -> bool {
-    let mine = access_at(paths, example.mine).expect(rt, "the access is there");
-    let theirs = access_at(paths, example.theirs).expect(rt, "the access is there");
+    let mine = access_at(rt, paths, example.mine);
+    let theirs = access_at(rt, paths, example.theirs);
     let facts = question_facts(mine, theirs);
     facts.as_slice() == wanted
 }
@@ -297,42 +291,46 @@ fn a_second_column_that_a_table_lacks_is_zero(rt: HostRuntime) {
     assert!(rt; second_terms(None, None) == None);
 }
 
-/// Accesses, each by its path and its number there.
-fn shown_places(alloc: Global, places: &[Placed]) -> Result<String, AllocError> {
-    let mut text = String::new(alloc);
-    for place in places {
-        write!(text, "{} {}; ", place.node, place.number)?;
-    }
-    Ok(text)
+/// Whether these accesses stand at these places.
+fn stand_at(places: &[Placed], wanted: &[Place]) -> bool {
+    let mut pairs = places.iter().zip(wanted);
+    places.len() == wanted.len() && pairs.all(|(place, at)| (place.node, place.number) == *at)
 }
 
-/// The accesses that change table 0.
-fn shown_changers(alloc: Global, paths: &[Path]) -> Result<String, AllocError> {
-    let places = all_places(alloc, paths)?;
-    let changers = Changers::of(alloc, &places)?;
-    shown_places(alloc, changers.of_table(0))
-}
-
-/// The accesses of the program of a number.
-fn shown_accesses(alloc: Global, paths: &[Path], program: usize) -> Result<String, AllocError> {
-    let places = program_places(alloc, paths, program)?;
-    shown_places(alloc, &places)
+/// Asserts which accesses of some paths change table 0.
+fn check_changers(rt: &impl Abort, alloc: Global, paths: &[Path], wanted: &[Place]) {
+    let places = all_places(alloc, paths).expect(rt, "memory");
+    let changers = Changers::of(alloc, &places).expect(rt, "memory");
+    assert!(rt; stand_at(changers.of_table(0), wanted));
 }
 
 #[test]
 fn the_changers_of_a_table_are_its_writes(rt: HostRuntime) -> Result<(), Fail> {
     let paths = paths_of(rt.alloc(), SMALL_BANK)?;
-    let shown = shown_changers(rt.alloc(), &paths);
+    check_changers(&rt, rt.alloc(), &paths, &[(2, 1), (3, 2)]);
     drop(paths);
-    is_told(&rt, shown?.as_str(), "2 1; 3 2; ");
     Ok(())
+}
+
+/// The accesses of the fifth program of SmallBank, which has two paths.
+const OF_A_CHECK: [Place; 6] = [(4, 0), (4, 1), (4, 2), (5, 0), (5, 1), (5, 2)];
+
+/// Asserts which accesses the program of a number has.
+fn check_accesses(
+    rt: &impl Abort,
+    alloc: Global,
+    paths: &[Path],
+    program: usize,
+    wanted: &[Place],
+) {
+    let places = program_places(alloc, paths, program).expect(rt, "memory");
+    assert!(rt; stand_at(&places, wanted));
 }
 
 #[test]
 fn the_accesses_of_a_program_are_those_of_its_paths(rt: HostRuntime) -> Result<(), Fail> {
     let paths = paths_of(rt.alloc(), SMALL_BANK)?;
-    let shown = shown_accesses(rt.alloc(), &paths, 4);
+    check_accesses(&rt, rt.alloc(), &paths, 4, &OF_A_CHECK);
     drop(paths);
-    is_told(&rt, shown?.as_str(), "4 0; 4 1; 4 2; 5 0; 5 1; 5 2; ");
     Ok(())
 }

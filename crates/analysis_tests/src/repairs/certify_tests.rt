@@ -1,61 +1,75 @@
 //! What the analysis of sets finds: the text of a certificate, or the least dangerous structure.
 
-use crate::dangers::{DANGEROUS, shown};
+use crate::dangers::{DANGEROUS, Structure, is_structure};
 use crate::examples::{KEPT_PAYS, KEPT_REPORTS, reason_count};
 use crate::repairs::sets::{APART, APART_TWICE, COLUMNS, KEPT_REPORT};
-use crate::told::is_told;
 use example_sets::{KEPT_PAY, LEDGER, TRANSFER, TRANSFER_CERTIFICATE, set_of};
-use robust_cert::to_json;
-use si_repair::{AnalyseFault, Finding, certify, certify_par};
+use robust_cert::{Certificate, to_json};
+use si_repair::{Finding, certify, certify_par};
 use std::alloc::Global;
 use std::process::Abort;
 use std::test::Fail;
 use std::thread::Threads;
 
-fn told(alloc: Global, finding: &Finding) -> Result<String, Fail> {
-    match finding {
-        Finding::Robust(certificate) => Ok(to_json(alloc, certificate)?),
-        Finding::Refused(danger) => Ok(shown(alloc, danger)?),
-    }
-}
-
-fn told_of(alloc: Global, found: Result<Finding, AnalyseFault>) -> Result<String, Fail> {
-    let finding = found?;
-    let told = told(alloc, &finding);
-    drop(finding);
-    told
-}
-
-/// Asserts what is found of the set of a text.
-fn check(rt: &impl Abort, alloc: Global, text: &str, wanted: &str) -> Result<(), Fail> {
+/// What is found of the set of a text.
+fn found(alloc: Global, text: &str) -> Result<Finding, Fail> {
     let set = set_of(alloc, text)?;
     let found = certify(alloc, &set);
     drop(set);
-    is_told(rt, told_of(alloc, found)?.as_str(), wanted);
-    Ok(())
+    Ok(found?)
 }
 
-/// The same of what `certify_par` finds.
-fn check_by_threads(
-    rt: &(impl Abort + Threads + Sync),
+/// The same, as `certify_par` finds it.
+fn found_by_threads(
+    rt: &(impl Threads + Sync),
     alloc: Global,
     text: &str,
-    wanted: &str,
-) -> Result<(), Fail> {
+) -> Result<Finding, Fail> {
     let set = set_of(alloc, text)?;
     let found = certify_par(rt, alloc, &set);
     drop(set);
-    is_told(rt, told_of(alloc, found)?.as_str(), wanted);
-    Ok(())
+    Ok(found?)
+}
+
+fn is_refused(finding: &Finding, wanted: &Structure) -> bool {
+    match finding {
+        Finding::Refused(danger) => is_structure(danger, wanted),
+        Finding::Robust(_) => false,
+    }
 }
 
 #[test]
 fn dangerous_sets_are_refused(rt: HostRuntime) -> Result<(), Fail> {
-    for (text, wanted) in DANGEROUS {
-        check(&rt, rt.alloc(), text, wanted)?;
-        check_by_threads(&rt, rt.alloc(), text, wanted)?;
+    for (text, wanted) in &DANGEROUS {
+        let finding = found(rt.alloc(), *text)?;
+        assert!(rt; is_refused(&finding, wanted), "{text}");
+        drop(finding);
     }
     Ok(())
+}
+
+#[test]
+fn threads_refuse_dangerous_sets(rt: HostRuntime) -> Result<(), Fail> {
+    for (text, wanted) in &DANGEROUS {
+        let finding = found_by_threads(&rt, rt.alloc(), *text)?;
+        assert!(rt; is_refused(&finding, wanted), "{text}");
+        drop(finding);
+    }
+    Ok(())
+}
+
+/// Asserts what is written of a certificate.
+fn check_written(rt: &impl Abort, alloc: Global, certificate: &Certificate, wanted: &str) {
+    let written = to_json(alloc, certificate).expect(rt, "memory");
+    assert!(rt; written.as_str() == wanted, "{written}");
+}
+
+/// Asserts that a certificate is found that is written so.
+fn check_certified(rt: &impl Abort, alloc: Global, finding: &Finding, wanted: &str) {
+    match finding {
+        Finding::Robust(certificate) => check_written(rt, alloc, certificate, wanted),
+        Finding::Refused(_) => panic!(rt; "no certificate, but {wanted} is wanted"),
+    }
 }
 
 /// Sets, and their certificates without covers.
@@ -71,7 +85,9 @@ const PLAIN: [(&str, &str); 3] = [
 #[test]
 fn sets_without_covers_are_certified(rt: HostRuntime) -> Result<(), Fail> {
     for (text, certificate) in PLAIN {
-        check(&rt, rt.alloc(), text, certificate)?;
+        let finding = found(rt.alloc(), text)?;
+        check_certified(&rt, rt.alloc(), &finding, certificate);
+        drop(finding);
     }
     Ok(())
 }
@@ -91,28 +107,29 @@ const COVERED: [(&str, &str); 4] = [
 #[test]
 fn covers_are_told_with_their_chains(rt: HostRuntime) -> Result<(), Fail> {
     for (text, certificate) in COVERED {
-        check(&rt, rt.alloc(), text, certificate)?;
-        check_by_threads(&rt, rt.alloc(), text, certificate)?;
+        let finding = found(rt.alloc(), text)?;
+        check_certified(&rt, rt.alloc(), &finding, certificate);
+        drop(finding);
     }
     Ok(())
 }
 
-fn found_reasons(finding: &Finding) -> usize {
+#[test]
+fn threads_tell_covers_with_their_chains(rt: HostRuntime) -> Result<(), Fail> {
+    for (text, certificate) in COVERED {
+        let finding = found_by_threads(&rt, rt.alloc(), text)?;
+        check_certified(&rt, rt.alloc(), &finding, certificate);
+        drop(finding);
+    }
+    Ok(())
+}
+
+/// How many reasons the certificate keeps that is found.
+fn reasons_kept(finding: &Finding) -> usize {
     match finding {
         Finding::Robust(certificate) => reason_count(certificate),
         Finding::Refused(_) => 0,
     }
-}
-
-/// How many reasons the certificate of the set of a text keeps.
-fn reasons_kept(alloc: Global, text: &str) -> Result<usize, Fail> {
-    let set = set_of(alloc, text)?;
-    let found = certify(alloc, &set);
-    drop(set);
-    let finding = found?;
-    let count = found_reasons(&finding);
-    drop(finding);
-    Ok(count)
 }
 
 /// Sets, and how many reasons their certificates keep: each that differs, and one that stands for
@@ -127,7 +144,9 @@ const REASONS: [(&str, usize); 3] = [
 #[test]
 fn questions_share_their_reasons(rt: HostRuntime) -> Result<(), Fail> {
     for (text, wanted) in REASONS {
-        let kept = reasons_kept(rt.alloc(), text)?;
+        let finding = found(rt.alloc(), text)?;
+        let kept = reasons_kept(&finding);
+        drop(finding);
         assert!(rt; kept == wanted, "{kept} reasons of {text}");
     }
     Ok(())

@@ -1,8 +1,7 @@
 //! Plans of sets, and what is made of plans of a caller's own.
 
-use crate::examples::{SKEW, paths_of, wide_text};
+use crate::examples::{SKEW, change_single_cells, paths_of, wide_text};
 use crate::repairs::sets::MOVE_IN_A_BODY;
-use conflict_pairs::changes_single_cells;
 use example_sets::{KEPT_PAY, MOVE, PAY, REPORT, SMALL_BANK, TRANSFER, set_of};
 use prog_check::ProgramSet;
 use prog_paths::{Path, Question, paths};
@@ -12,7 +11,7 @@ use si_repair::{
     Obstacle, Pair, Plan, RepairFault, exposed_questions, first_exposed, has_unknown_key,
     hindered_question, is_range_at, materialise, plan, promote,
 };
-use std::alloc::{AllocError, Global};
+use std::alloc::Global;
 use std::process::Abort;
 use std::test::Fail;
 
@@ -58,20 +57,6 @@ const EXPOSED: [(&str, Pair, &[[usize; 4]]); 3] = [
     (TRANSFER, ITSELF, &[]),
 ];
 
-/// The exposed questions of a pair of the programs of a text.
-fn exposed_of(
-    rt: &impl Abort,
-    alloc: Global,
-    text: &str,
-    pair: Pair,
-) -> Result<Vec<Question>, Fail> {
-    let paths = paths_of(alloc, text)?;
-    assert!(rt; paths.iter().all(|path| changes_single_cells(path)));
-    let exposed = exposed_questions(alloc, &paths, pair);
-    drop(paths);
-    Ok(exposed?)
-}
-
 /// Whether a question has these nodes and accesses.
 fn is_numbered(question: &Question, numbers: &[usize; 4]) -> bool {
     [question.x, question.a, question.y, question.b] == *numbers
@@ -90,69 +75,73 @@ fn are_numbered(questions: &[Question], wanted: &[[usize; 4]]) -> bool {
     true
 }
 
+/// Whether a question has the first of these.
+fn has_first(question: &Question, wanted: &[[usize; 4]]) -> bool {
+    match wanted {
+        [first, ..] => is_numbered(question, first),
+        [] => false,
+    }
+}
+
 /// Whether a question has the first of these, or is none where there are none.
 fn is_first(found: Option<Question>, wanted: &[[usize; 4]]) -> bool {
-    match (found, wanted.first()) {
-        (Some(question), Some(numbers)) => is_numbered(&question, numbers),
-        (None, None) => true,
-        _ => false,
+    match found {
+        Some(question) => has_first(&question, wanted),
+        None => wanted.is_empty(),
     }
+}
+
+/// Asserts which questions of a pair are exposed.
+fn check_exposed(
+    rt: &impl Abort,
+    alloc: Global,
+    paths: &[Path],
+    pair: Pair,
+    wanted: &[[usize; 4]],
+) {
+    assert!(rt; change_single_cells(paths));
+    let exposed = exposed_questions(alloc, paths, pair).expect(rt, "memory");
+    assert!(rt; are_numbered(&exposed, wanted));
 }
 
 #[test]
 fn what_is_not_covered_is_exposed(rt: HostRuntime) -> Result<(), Fail> {
     for &(text, pair, wanted) in EXPOSED.iter() {
-        let exposed = exposed_of(&rt, rt.alloc(), text, pair)?;
-        assert!(rt; are_numbered(&exposed, wanted), "{text}");
+        let paths = paths_of(rt.alloc(), text)?;
+        check_exposed(&rt, rt.alloc(), &paths, pair, wanted);
+        drop(paths);
     }
     Ok(())
 }
 
-/// The first exposed question of a pair of the programs of a text.
-fn first_of(
-    rt: &impl Abort,
-    alloc: Global,
-    text: &str,
-    pair: Pair,
-) -> Result<Option<Question>, Fail> {
-    let paths = paths_of(alloc, text)?;
-    assert!(rt; paths.iter().all(|path| changes_single_cells(path)));
-    let first = first_exposed(alloc, &paths, pair);
-    drop(paths);
-    Ok(first?)
+/// Asserts which exposed question of a pair is found first.
+fn check_first(rt: &impl Abort, alloc: Global, paths: &[Path], pair: Pair, wanted: &[[usize; 4]]) {
+    assert!(rt; change_single_cells(paths));
+    let first = first_exposed(alloc, paths, pair).expect(rt, "memory");
+    assert!(rt; is_first(first, wanted));
 }
 
 #[test]
 fn the_first_that_is_exposed_is_found(rt: HostRuntime) -> Result<(), Fail> {
     for &(text, pair, wanted) in EXPOSED.iter() {
-        let first = first_of(&rt, rt.alloc(), text, pair)?;
-        assert!(rt; is_first(first, wanted), "{text}");
+        let paths = paths_of(rt.alloc(), text)?;
+        check_first(&rt, rt.alloc(), &paths, pair, wanted);
+        drop(paths);
     }
     Ok(())
 }
 
-/// The first exposed question of a pair of programs whose read no `keep` covers.
+/// The first exposed question of the first program with itself whose read no `keep` covers.
 fn hindered_in(
+    rt: &impl Abort,
     alloc: Global,
     set: &ProgramSet,
-    pair: Pair,
     obstacle: Obstacle,
-) -> Result<Option<Question>, AllocError> {
-    let paths = paths(alloc, set)?;
-    hindered_question(alloc, set.draft(), &paths, pair, obstacle)
-}
-
-/// The same of the programs of a text.
-fn hindered_of(
-    alloc: Global,
-    text: &str,
-    pair: Pair,
-    obstacle: Obstacle,
-) -> Result<Option<Question>, Fail> {
-    let set = set_of(alloc, text)?;
-    let found = hindered_in(alloc, &set, pair, obstacle);
-    drop(set);
-    Ok(found?)
+) -> Option<Question> {
+    let paths = paths(alloc, set).expect(rt, "memory");
+    let found = hindered_question(alloc, set.draft(), &paths, ITSELF, obstacle);
+    drop(paths);
+    found.expect(rt, "memory")
 }
 
 /// Obstacles, and the first question of the set that moves in a body whose read they keep from
@@ -165,30 +154,25 @@ const HINDERED: [(Obstacle, &[[usize; 4]]); 3] = [
 
 #[test]
 fn what_no_keep_covers_is_found(rt: HostRuntime) -> Result<(), Fail> {
+    let set = set_of(rt.alloc(), MOVE_IN_A_BODY)?;
     for &(obstacle, wanted) in HINDERED.iter() {
-        let found = hindered_of(rt.alloc(), MOVE_IN_A_BODY, ITSELF, obstacle)?;
-        assert!(rt; is_first(found, wanted));
+        assert!(rt; is_first(hindered_in(&rt, rt.alloc(), &set, obstacle), wanted));
     }
+    drop(set);
     Ok(())
 }
 
 /// Statements of the one program of a set with an `each`, and whether they are ranges.
 const RANGES: [(usize, bool); 4] = [(0, true), (1, false), (2, false), (3, false)];
 
-/// Whether the statement of a number of the first program of a text is a range.
-fn first_has_range(alloc: Global, text: &str, number: usize) -> Result<bool, Fail> {
-    let set = set_of(alloc, text)?;
-    let found = is_range_at(alloc, set.draft(), 0, number);
-    drop(set);
-    Ok(found?)
-}
-
 #[test]
 fn an_each_is_a_range_and_its_body_is_not(rt: HostRuntime) -> Result<(), Fail> {
+    let set = set_of(rt.alloc(), MOVE_IN_A_BODY)?;
     for &(number, wanted) in RANGES.iter() {
-        let found = first_has_range(rt.alloc(), MOVE_IN_A_BODY, number)?;
+        let found = is_range_at(rt.alloc(), set.draft(), 0, number).expect(&rt, "memory");
         assert!(rt; found == wanted, "{number}");
     }
+    drop(set);
     Ok(())
 }
 
@@ -209,83 +193,66 @@ fn unknown_at(paths: &[Path], number: usize) -> Option<bool> {
     Some(has_unknown_key(access))
 }
 
-/// The same of the paths of a text.
-fn unknown_in(alloc: Global, text: &str, number: usize) -> Result<Option<bool>, Fail> {
-    let paths = paths_of(alloc, text)?;
-    let unknown = unknown_at(&paths, number);
-    drop(paths);
-    Ok(unknown)
-}
-
 #[test]
 fn a_computed_key_is_unknown(rt: HostRuntime) -> Result<(), Fail> {
     for &(text, number, wanted) in KEYS.iter() {
-        let unknown = unknown_in(rt.alloc(), text, number)?;
+        let paths = paths_of(rt.alloc(), text)?;
+        let unknown = unknown_at(&paths, number);
+        drop(paths);
         assert!(rt; unknown == Some(wanted), "{text} {number}");
     }
     Ok(())
 }
 
 /// A plan of a caller's own.
-fn own(alloc: Global, pairs: &[Pair]) -> Result<Plan, AllocError> {
-    Ok(Plan {
-        pairs: Sequence::from_slice(alloc, pairs)?,
-    })
+fn own(rt: &impl Abort, alloc: Global, pairs: &[Pair]) -> Plan {
+    let pairs = Sequence::from_slice(alloc, pairs).expect(rt, "memory");
+    Plan { pairs }
+}
+
+/// A set materialised for a plan of a caller's own.
+fn materialised_set(
+    rt: &impl Abort,
+    alloc: Global,
+    set: &ProgramSet,
+    pairs: &[Pair],
+) -> ProgramSet {
+    let plan = own(rt, alloc, pairs);
+    let repaired = materialise(alloc, set, &plan);
+    drop(plan);
+    repaired.expect(rt, "no fault")
 }
 
 type Repaired = Result<ProgramSet, RepairFault>;
 
-/// A set materialised for a plan of a caller's own.
-fn materialised_set(
-    alloc: Global,
-    set: &ProgramSet,
-    pairs: &[Pair],
-) -> Result<Repaired, AllocError> {
-    let plan = own(alloc, pairs)?;
-    let repaired = materialise(alloc, set, &plan);
+/// The set of a text promoted for a plan of a caller's own, or why it is not.
+fn promoted(rt: &impl Abort, alloc: Global, text: &str, pairs: &[Pair]) -> Result<Repaired, Fail> {
+    let set = set_of(alloc, text)?;
+    let plan = own(rt, alloc, pairs);
+    let repaired = promote(alloc, &set, &plan);
     drop(plan);
-    Ok(repaired)
-}
-
-/// A set promoted for a plan of a caller's own.
-fn promoted_set(alloc: Global, set: &ProgramSet, pairs: &[Pair]) -> Result<Repaired, AllocError> {
-    let plan = own(alloc, pairs)?;
-    let repaired = promote(alloc, set, &plan);
-    drop(plan);
+    drop(set);
     Ok(repaired)
 }
 
 /// The text of a set, which is let go.
-fn printed(alloc: Global, set: ProgramSet) -> Result<Vec<u8>, AllocError> {
+fn printed(rt: &impl Abort, alloc: Global, set: ProgramSet) -> Vec<u8> {
     let text = print(alloc, set.draft());
     drop(set);
-    text
+    text.expect(rt, "memory")
 }
 
 /// The text of a set materialised for a plan of a caller's own.
-fn materialised(alloc: Global, text: &str, pairs: &[Pair]) -> Result<Vec<u8>, Fail> {
-    let set = set_of(alloc, text)?;
-    let repaired = materialised_set(alloc, &set, pairs);
-    drop(set);
-    match repaired? {
-        Ok(repaired) => Ok(printed(alloc, repaired)?),
-        Err(_) => Err(Fail::new("a fault")),
-    }
-}
-
-/// The text of a set promoted for a plan of a caller's own, or why it is not.
-fn promoted(
+fn materialised(
+    rt: &impl Abort,
     alloc: Global,
     text: &str,
     pairs: &[Pair],
-) -> Result<Result<Vec<u8>, RepairFault>, Fail> {
+) -> Result<Vec<u8>, Fail> {
     let set = set_of(alloc, text)?;
-    let repaired = promoted_set(alloc, &set, pairs);
+    let repaired = materialised_set(rt, alloc, &set, pairs);
     drop(set);
-    match repaired? {
-        Ok(repaired) => Ok(Ok(printed(alloc, repaired)?)),
-        Err(fault) => Ok(Err(fault)),
-    }
+    Ok(printed(rt, alloc, repaired))
 }
 
 /// A program that reads nothing.
@@ -303,21 +270,22 @@ program Echo(a) {
 
 #[test]
 fn a_pair_without_a_question_keeps_its_first_parameter(rt: HostRuntime) -> Result<(), Fail> {
-    let twice = materialised(rt.alloc(), ECHO, &[ITSELF, ITSELF])?;
+    let twice = materialised(&rt, rt.alloc(), ECHO, &[ITSELF, ITSELF])?;
     assert!(rt; twice.as_slice() == ECHO_TWICE);
     Ok(())
 }
 
 #[test]
 fn a_pair_without_a_question_promotes_nothing(rt: HostRuntime) -> Result<(), Fail> {
-    let none = promoted(rt.alloc(), ECHO, &[ITSELF])?;
-    assert!(rt; none?.as_slice() == ECHO.as_bytes());
+    let repaired = promoted(&rt, rt.alloc(), ECHO, &[ITSELF])?;
+    let text = printed(&rt, rt.alloc(), repaired.expect(&rt, "no fault"));
+    assert!(rt; text.as_slice() == ECHO.as_bytes());
     Ok(())
 }
 
 #[test]
 fn a_program_that_lists_rows_keeps_a_cell(rt: HostRuntime) -> Result<(), Fail> {
-    let kept = materialised(rt.alloc(), PAY, &[ITSELF])?;
+    let kept = materialised(&rt, rt.alloc(), PAY, &[ITSELF])?;
     assert!(rt; kept.as_slice() == KEPT_PAY.as_bytes());
     Ok(())
 }
@@ -332,7 +300,7 @@ const NOT_PROMOTED: [(&str, RepairFault); 3] = [
 #[test]
 fn a_read_of_a_range_or_in_a_body_is_not_promoted(rt: HostRuntime) -> Result<(), Fail> {
     for (text, fault) in NOT_PROMOTED {
-        let found = promoted(rt.alloc(), text, &[ITSELF])?.err();
+        let found = promoted(&rt, rt.alloc(), text, &[ITSELF])?.err();
         assert!(rt; found == Some(fault), "{text}");
     }
     Ok(())
@@ -348,7 +316,7 @@ program P0(v) {
 #[test]
 fn sets_that_ask_too_much_are_materialised(rt: HostRuntime) -> Result<(), Fail> {
     let wide = wide_text(rt.alloc(), 2)?;
-    let text = materialised(rt.alloc(), &wide, &[ITSELF])?;
+    let text = materialised(&rt, rt.alloc(), &wide, &[ITSELF])?;
     assert!(rt; text.as_slice().starts_with(WIDE_FRONT.as_bytes()));
     Ok(())
 }
