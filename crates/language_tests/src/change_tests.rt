@@ -1,6 +1,6 @@
 //! Cells, rows, changes and what a run has done, as a reader works them out.
 
-use crate::told::is_told;
+use crate::told::{is_so_at, is_told};
 use prog_tree::{
     Cell, Changes, Env, Piece, Progress, Region, RisingCells, RowPieces, Rows, Sequence,
     lies_between,
@@ -23,31 +23,60 @@ fn rising(alloc: Global, cells: &[Cell]) -> Result<RisingCells, AllocError> {
     Ok(RisingCells::from_vec(cells))
 }
 
-/// Asserts which cells are among `e[7, 1]` and `t[7]`.
+/// A copy of cells in their order, which outlives them.
+fn copy_of_rising(alloc: Global, cells: &[Cell]) -> Result<RisingCells, AllocError> {
+    let cells = rising(alloc, cells)?;
+    let copy = cells.copy();
+    drop(cells);
+    copy
+}
+
+/// Cells, and whether they are among `e[7, 1]` and `t[7]`.
+const AMONG: [(usize, i64, bool); 4] = [(0, 1, true), (0, 0, false), (1, 0, true), (1, 1, false)];
+
 fn check_rising(rt: &impl Abort, cells: &RisingCells) {
-    for (table, second, among) in [(0, 1, true), (0, 0, false), (1, 0, true), (1, 1, false)] {
-        let cell = cell(table, 7, second);
-        assert!(rt; cells.contains(&cell) == among, "{table} {second}");
+    assert!(rt; cells.as_slice() == [cell(0, 7, 1), cell(1, 7, 0)].as_slice());
+    for (table, second, among) in &AMONG {
+        let cell = cell(*table, 7, *second);
+        is_so_at(rt, *table, cells.contains(&cell) == *among);
     }
+    assert!(rt; !cells.is_empty());
 }
 
 #[test]
 fn rising_cells_are_found(rt: HostRuntime) -> Result<(), AllocError> {
-    let cells = rising(rt.alloc(), &[cell(1, 7, 0), cell(0, 7, 1)])?;
-    let copy = cells.copy()?;
-    drop(cells);
-    assert!(rt; copy.as_slice() == [cell(0, 7, 1), cell(1, 7, 0)].as_slice());
+    let copy = copy_of_rising(rt.alloc(), &[cell(1, 7, 0), cell(0, 7, 1)])?;
     check_rising(&rt, &copy);
-    assert!(rt; !copy.is_empty() && RisingCells::new(rt.alloc()).is_empty());
+    drop(copy);
     Ok(())
+}
+
+#[test]
+fn no_cells_are_empty(rt: HostRuntime) {
+    let none = RisingCells::new(rt.alloc());
+    assert!(rt; none.is_empty());
+    drop(none);
+}
+
+/// Whether cells are the same as a copy of others.
+fn is_same_as_copy_of(
+    alloc: Global,
+    cells: &RisingCells,
+    others: &[Cell],
+) -> Result<bool, AllocError> {
+    let copy = copy_of_rising(alloc, others)?;
+    let is_same = cells.is_same(&copy);
+    drop(copy);
+    Ok(is_same)
 }
 
 #[test]
 fn rising_cells_are_the_same_where_all_are(rt: HostRuntime) -> Result<(), AllocError> {
     let cells = rising(rt.alloc(), &[cell(1, 7, 0), cell(0, 7, 1)])?;
-    let copy = cells.copy()?;
-    let one = rising(rt.alloc(), &[cell(0, 7, 1)])?;
-    assert!(rt; cells.is_same(&copy) && !cells.is_same(&one));
+    let all = is_same_as_copy_of(rt.alloc(), &cells, &[cell(1, 7, 0), cell(0, 7, 1)]);
+    let one = is_same_as_copy_of(rt.alloc(), &cells, &[cell(0, 7, 1)]);
+    drop(cells);
+    assert!(rt; all == Ok(true) && one == Ok(false));
     Ok(())
 }
 
@@ -91,16 +120,19 @@ fn regions_have_corners_unless_they_are_empty(rt: HostRuntime) {
     assert!(rt; region.corners().is_none());
 }
 
-/// Gives `e[7, 3]`, `t[-5]` and `e[7, 1]` rows in this order, and the first another; `e` is table 0
-/// and `t` table 1. Each answers the row that was there.
+/// Rows that are given in this order, the first cell another again, and the value that was there:
+/// table, key columns, value. `e` is table 0 and `t` table 1.
+const GIVEN: [(usize, i64, i64, i64, Option<i64>); 4] = [
+    (0, 7, 3, 4, None),
+    (1, -5, 0, 8, None),
+    (0, 7, 1, 9, None),
+    (0, 7, 3, 5, Some(4)),
+];
+
 fn insert_rows(rt: &impl Abort, rows: &mut Rows) -> Result<(), AllocError> {
-    for (cell, value, before) in [
-        (cell(0, 7, 3), 4, None),
-        (cell(1, -5, 0), 8, None),
-        (cell(0, 7, 1), 9, None),
-        (cell(0, 7, 3), 5, Some(4)),
-    ] {
-        assert!(rt; rows.insert(cell, value)? == before);
+    for (table, first, second, value, before) in &GIVEN {
+        let found = rows.insert(cell(*table, *first, *second), *value)?;
+        assert!(rt; found == *before);
     }
     Ok(())
 }
@@ -113,33 +145,35 @@ fn remove_row(rt: &impl Abort, rows: &mut Rows) {
     assert!(rt; !rows.is_empty());
 }
 
-fn shown_rows(alloc: Global, rows: &Rows) -> Result<String, AllocError> {
-    let mut text = String::new(alloc);
-    for (cell, value) in rows.iter() {
-        write!(text, "{cell:?} {value}; ")?;
+/// The rows of the copy, in cell order: table, key columns and value.
+const COPIED: [(usize, i64, i64, i64); 3] = [(0, 7, 1, 9), (0, 7, 3, 5), (1, -5, 0, 8)];
+
+fn check_copied(rt: &impl Abort, rows: &Rows) {
+    let mut rows = rows.iter();
+    for (table, first, second, value) in &COPIED {
+        let wanted = cell(*table, *first, *second);
+        assert!(rt; rows.next() == Some((&wanted, value)));
     }
-    Ok(text)
+    assert!(rt; rows.next().is_none());
 }
 
-/// A row is taken out behind a copy, which is shown.
-fn shown_copy(rt: &impl Abort, alloc: Global, rows: &mut Rows) -> Result<String, AllocError> {
+/// A row is taken out behind a copy.
+fn copy_before_removal(rt: &impl Abort, rows: &mut Rows) -> Result<Rows, AllocError> {
     insert_rows(rt, rows)?;
     let copy = rows.copy()?;
     remove_row(rt, rows);
-    let shown = shown_rows(alloc, &copy);
-    drop(copy);
-    shown
+    Ok(copy)
 }
 
 #[test]
 fn rows_are_a_map_in_cell_order(rt: HostRuntime) -> Result<(), AllocError> {
     let mut rows = Rows::new(rt.alloc());
     assert!(rt; rows.is_empty());
-    let shown = shown_copy(&rt, rt.alloc(), &mut rows);
+    let copy = copy_before_removal(&rt, &mut rows);
     drop(rows);
-    let wanted = "Cell { table: 0, first: 7, second: 1 } 9; \
-Cell { table: 0, first: 7, second: 3 } 5; Cell { table: 1, first: -5, second: 0 } 8; ";
-    is_told(&rt, "rows", shown?.as_str(), wanted);
+    let copy = copy?;
+    check_copied(&rt, &copy);
+    drop(copy);
     Ok(())
 }
 
@@ -160,9 +194,10 @@ const CHANGED: [(i64, Option<Option<i64>>, bool); 4] = [
 ];
 
 fn compare_changes(rt: &impl Abort, changes: &Changes) {
-    for (first, change, is_touched) in CHANGED {
-        let cell = cell(0, first, 0);
-        assert!(rt; changes.get(&cell) == change && changes.touches(&cell) == is_touched);
+    for (first, change, is_touched) in &CHANGED {
+        let cell = cell(0, *first, 0);
+        assert!(rt; changes.get(&cell) == *change);
+        assert!(rt; changes.touches(&cell) == *is_touched);
     }
 }
 
@@ -223,33 +258,70 @@ fn changes_are_values_removals_and_marks(rt: HostRuntime) -> Result<(), AllocErr
     Ok(())
 }
 
+/// Two replies, pushed one after another.
+fn two_replies(alloc: Global) -> Result<Sequence<i64>, AllocError> {
+    let mut replies = Sequence::new(alloc);
+    for reply in &[3, -4] {
+        replies.push(*reply)?;
+    }
+    Ok(replies)
+}
+
+/// Whether a copy has both replies.
+fn is_copied(replies: &Sequence<i64>) -> Result<bool, AllocError> {
+    let copy = replies.copy()?;
+    let is_same = copy.as_slice() == [3, -4].as_slice();
+    drop(copy);
+    Ok(is_same)
+}
+
+/// The second reply is cut off.
+fn check_cut(rt: &impl Abort, replies: &mut Sequence<i64>) {
+    replies.truncate(1);
+    assert!(rt; replies.as_slice() == [3].as_slice() && !replies.is_empty());
+}
+
 #[test]
 fn a_sequence_is_its_items(rt: HostRuntime) -> Result<(), AllocError> {
-    let mut replies = Sequence::new(rt.alloc());
-    replies.push(3)?;
-    replies.push(-4)?;
+    let replies = two_replies(rt.alloc())?;
     assert!(rt; replies.len() == 2);
     let mut again = Sequence::from_vec(replies.into_vec());
     assert!(rt; again.as_slice() == [3, -4].as_slice());
-    let copy = again.copy()?;
-    assert!(rt; copy.as_slice() == [3, -4].as_slice());
-    again.truncate(1);
-    assert!(rt; again.as_slice() == [3].as_slice() && !again.is_empty());
+    let copied = is_copied(&again);
+    check_cut(&rt, &mut again);
+    drop(again);
+    assert!(rt; copied == Ok(true));
     Ok(())
 }
 
-// Rows `t[first]` with their values, in one piece.
-fn piece(alloc: Global, rows: &[(i64, i64)]) -> Result<Piece, AllocError> {
+/// Rows `t[first]`, each by its first column and its value.
+type FewRows = &'static [(i64, i64)];
+
+/// Rows in one piece.
+fn piece(alloc: Global, rows: FewRows) -> Result<Piece, AllocError> {
     let mut list = Vec::new(alloc);
     for (first, value) in rows {
-        let cell = Cell {
-            table: 0,
-            first: *first,
-            second: 0,
-        };
-        list.push((cell, *value))?;
+        list.push((cell(0, *first, 0), *value))?;
     }
     Piece::new(alloc, list)
+}
+
+/// Rows in pieces: the first piece, which is shared, and others behind it.
+fn behind(alloc: Global, first: &Piece, others: &[FewRows]) -> Result<RowPieces, AllocError> {
+    let mut pieces = Vec::new(alloc);
+    pieces.push(first.share()?)?;
+    for rows in others {
+        pieces.push(piece(alloc, rows)?)?;
+    }
+    RowPieces::from_pieces(alloc, pieces)
+}
+
+/// Rows that are shared, and outlive those that were found first.
+fn found_again(alloc: Global, first: &Piece) -> Result<RowPieces, AllocError> {
+    let found = behind(alloc, first, &[&[], &[(5, -3)]])?;
+    let again = found.share();
+    drop(found);
+    again
 }
 
 // The value of each row, in order.
@@ -266,48 +338,116 @@ fn values(alloc: Global, rows: &RowPieces) -> Result<Vec<i64>, AllocError> {
     Ok(values)
 }
 
-#[test]
-fn rows_in_pieces_outlive_the_look_that_found_them(rt: HostRuntime) -> Result<(), AllocError> {
-    let mut pieces = Vec::new(rt.alloc());
-    let first = piece(rt.alloc(), &[(1, 9), (2, 4)])?;
-    pieces.push(first.share()?)?;
-    pieces.push(piece(rt.alloc(), &[])?)?;
-    pieces.push(piece(rt.alloc(), &[(5, -3)])?)?;
-    let found = RowPieces::from_pieces(rt.alloc(), pieces)?;
-    let again = found.share()?;
-    drop(found);
-    assert!(rt; again.len() == 3 && again.total() == 10 && !again.is_empty());
-    assert!(rt; values(rt.alloc(), &again)?.as_slice() == [9, 4, -3].as_slice());
-    assert!(rt; again.pieces().len() == 3 && again.pieces()[0].rows().len() == 2);
-    assert!(rt; first.len() == 2 && first.total() == 13);
-    let none = RowPieces::from_list(Sequence::new(rt.alloc()))?;
-    assert!(rt; none.is_empty() && none.walk().is_empty());
+fn check_values(rt: &impl Abort, alloc: Global, rows: &RowPieces) -> Result<(), AllocError> {
+    let values = values(alloc, rows)?;
+    assert!(rt; values.as_slice() == [9, 4, -3].as_slice());
+    drop(values);
     Ok(())
 }
 
+/// Three rows in three pieces, the second without rows.
+fn check_pieces(rt: &impl Abort, rows: &RowPieces) {
+    assert!(rt; rows.len() == 3 && rows.total() == 10 && !rows.is_empty());
+    let pieces = rows.pieces();
+    assert!(rt; pieces.len() == 3 && pieces[0].rows().len() == 2);
+}
+
 #[test]
-fn rows_are_the_same_however_they_are_cut(rt: HostRuntime) -> Result<(), AllocError> {
-    let mut parts = Vec::new(rt.alloc());
-    parts.push(piece(rt.alloc(), &[(1, 9)])?)?;
-    parts.push(piece(rt.alloc(), &[(2, 4), (5, -3)])?)?;
-    let cut = RowPieces::from_pieces(rt.alloc(), parts)?;
-    let mut whole = Vec::new(rt.alloc());
-    whole.push(piece(rt.alloc(), &[(1, 9), (2, 4), (5, -3)])?)?;
-    let uncut = RowPieces::from_pieces(rt.alloc(), whole)?;
-    let mut start = Vec::new(rt.alloc());
-    start.push(piece(rt.alloc(), &[(1, 9), (2, 4)])?)?;
-    let shorter = RowPieces::from_pieces(rt.alloc(), start)?;
-    assert!(rt; cut.is_same(&cut.share()?) && cut.is_same(&uncut) && uncut.is_same(&cut));
-    assert!(rt; !cut.is_same(&shorter) && !shorter.is_same(&uncut));
+fn rows_in_pieces_outlive_the_look_that_found_them(rt: HostRuntime) -> Result<(), AllocError> {
+    let first = piece(rt.alloc(), &[(1, 9), (2, 4)])?;
+    let again = found_again(rt.alloc(), &first);
+    assert!(rt; first.len() == 2 && first.total() == 13);
+    drop(first);
+    let again = again?;
+    check_pieces(&rt, &again);
+    let checked = check_values(&rt, rt.alloc(), &again);
+    drop(again);
+    checked
+}
+
+#[test]
+fn no_rows_are_in_pieces_of_an_empty_list(rt: HostRuntime) -> Result<(), AllocError> {
+    let none = RowPieces::from_list(Sequence::new(rt.alloc()))?;
+    assert!(rt; none.is_empty() && none.walk().is_empty());
+    drop(none);
     Ok(())
+}
+
+/// The rows of a first piece, and those of each piece behind it.
+type Cut = (FewRows, &'static [FewRows]);
+
+const CUT: Cut = (&[(1, 9)], &[&[(2, 4), (5, -3)]]);
+
+const WHOLE: Cut = (&[(1, 9), (2, 4), (5, -3)], &[]);
+
+const SHORTER: Cut = (&[(1, 9), (2, 4)], &[]);
+
+/// Rows that are cut so.
+fn in_pieces(alloc: Global, cut: &Cut) -> Result<RowPieces, AllocError> {
+    let first = piece(alloc, cut.0)?;
+    let rows = behind(alloc, &first, cut.1);
+    drop(first);
+    rows
+}
+
+/// Whether rows are the same as others that are cut so.
+fn is_same_as(alloc: Global, rows: &RowPieces, cut: &Cut) -> Result<bool, AllocError> {
+    let others = in_pieces(alloc, cut)?;
+    let is_same = rows.is_same(&others);
+    drop(others);
+    Ok(is_same)
+}
+
+/// Whether rows are the same as themselves once more.
+fn is_same_as_share(rows: &RowPieces) -> Result<bool, AllocError> {
+    let share = rows.share()?;
+    let is_same = rows.is_same(&share);
+    drop(share);
+    Ok(is_same)
+}
+
+/// Whether rows that are cut so are the same as others.
+fn are_same(alloc: Global, cut: &Cut, other: &Cut) -> Result<bool, AllocError> {
+    let rows = in_pieces(alloc, cut)?;
+    let is_same = is_same_as(alloc, &rows, other);
+    drop(rows);
+    is_same
+}
+
+/// Rows and others, and whether they are the same.
+const PAIRS: [(Cut, Cut, bool); 4] = [
+    (CUT, WHOLE, true),
+    (WHOLE, CUT, true),
+    (CUT, SHORTER, false),
+    (SHORTER, WHOLE, false),
+];
+
+#[test]
+fn rows_are_the_same_however_they_are_cut(rt: HostRuntime) {
+    for (cut, other, wanted) in &PAIRS {
+        assert!(rt; are_same(rt.alloc(), cut, other) == Ok(*wanted));
+    }
+}
+
+#[test]
+fn shared_rows_are_the_same(rt: HostRuntime) -> Result<(), AllocError> {
+    let rows = in_pieces(rt.alloc(), &CUT)?;
+    let is_same = is_same_as_share(&rows);
+    drop(rows);
+    assert!(rt; is_same == Ok(true));
+    Ok(())
+}
+
+fn check_nothing_done(rt: &impl Abort, progress: &Progress<'_>) {
+    assert!(rt; progress.env.is_empty());
+    assert!(rt; progress.deeds.is_empty() && progress.looks.is_empty());
+    assert!(rt; progress.replies.is_empty() && progress.changes.iter().len() == 0);
 }
 
 #[test]
 fn a_run_has_done_nothing_at_first(rt: HostRuntime) -> Result<(), AllocError> {
     let progress = Progress::with_room(rt.alloc(), Env::new(rt.alloc()), 2)?;
-    assert!(rt; progress.env.is_empty());
-    assert!(rt; progress.deeds.is_empty() && progress.looks.is_empty());
-    assert!(rt; progress.replies.is_empty() && progress.changes.iter().len() == 0);
+    check_nothing_done(&rt, &progress);
     drop(progress);
     Ok(())
 }

@@ -1,5 +1,6 @@
 //! Checked sets: faults with their places, and the numbers of names.
 
+use crate::told::{is_so, is_so_at};
 use example_sets::{LEDGER, set_of};
 use prog_check::{CheckFault, Place, ProgramSet, check, table_use};
 use prog_text::parse;
@@ -84,9 +85,9 @@ fn branches_of_an_each_add_no_paths(rt: HostRuntime) -> Result<(), Fail> {
 
 #[test]
 fn faults_have_their_place(rt: HostRuntime) -> Result<(), Fail> {
-    for (text, fault) in FAULTS {
+    for (text, fault) in &FAULTS {
         let found = fault_of(rt.alloc(), text)?;
-        assert!(rt; found == Some(fault), "{text}");
+        is_so(&rt, text, found == Some(*fault));
     }
     Ok(())
 }
@@ -103,7 +104,7 @@ const NUMBERS: [(&str, Option<usize>, Option<usize>); 5] = [
 fn compare(rt: &impl Abort, set: &ProgramSet) {
     for &(name, table, program) in NUMBERS.iter() {
         let numbers = (set.table_number(name), set.program_number(name));
-        assert!(rt; numbers == (table, program), "{name}");
+        is_so(rt, name, numbers == (table, program));
     }
     assert!(rt; set.draft().programs.len() == 3);
 }
@@ -157,7 +158,7 @@ fn compare_used(rt: &impl Abort, set: &ProgramSet) {
     let program = set.draft().programs.get(0).expect(rt, "a program");
     for (number, wanted) in USED.iter().enumerate() {
         let stmt = program.body.stmts.get(number).expect(rt, "a statement");
-        assert!(rt; used(stmt) == *wanted, "{number}");
+        is_so_at(rt, number, used(stmt) == *wanted);
     }
 }
 

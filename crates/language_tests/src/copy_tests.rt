@@ -1,31 +1,49 @@
 //! Copies of a draft and of its parts.
 
+use crate::told::is_so;
 use example_sets::{PAY, SMALL_BANK, set_of};
 use prog_text::parse;
-use prog_tree::{Block, Draft, Expr, Key, Name, Stmt, Test, copy_names, copy_tables, same_tables};
+use prog_tree::{
+    Block, Draft, Expr, Key, Name, Program, Stmt, TableDecl, Test, copy_names, copy_tables,
+    same_tables,
+};
 use std::alloc::{AllocError, Global};
 use std::fmt::Debug;
 use std::test::Fail;
 
 fn is_copied(draft: &Draft) -> Result<bool, AllocError> {
     let copy = draft.copy()?;
-    Ok(copy.is_same(draft))
+    let is_same = copy.is_same(draft);
+    drop(copy);
+    Ok(is_same)
 }
 
-fn are_tables_copied(draft: &Draft) -> Result<bool, AllocError> {
-    for table in &draft.tables {
-        let copy = table.copy()?;
-        if !copy.is_same(table) {
+fn is_table_copied(table: &TableDecl) -> Result<bool, AllocError> {
+    let copy = table.copy()?;
+    let is_same = copy.is_same(table);
+    drop(copy);
+    Ok(is_same)
+}
+
+fn are_tables_copied(tables: &[TableDecl]) -> Result<bool, AllocError> {
+    for table in tables {
+        if !is_table_copied(table)? {
             return Ok(false);
         }
     }
     Ok(true)
 }
 
-fn are_programs_copied(draft: &Draft) -> Result<bool, AllocError> {
-    for program in &draft.programs {
-        let copy = program.copy()?;
-        if !copy.is_same(program) {
+fn is_program_copied(program: &Program) -> Result<bool, AllocError> {
+    let copy = program.copy()?;
+    let is_same = copy.is_same(program);
+    drop(copy);
+    Ok(is_same)
+}
+
+fn are_programs_copied(programs: &[Program]) -> Result<bool, AllocError> {
+    for program in programs {
+        if !is_program_copied(program)? {
             return Ok(false);
         }
     }
@@ -35,8 +53,8 @@ fn are_programs_copied(draft: &Draft) -> Result<bool, AllocError> {
 /// Whether a draft, its tables and its programs are copied.
 fn are_copied(draft: &Draft) -> Result<[bool; 3], AllocError> {
     let whole = is_copied(draft)?;
-    let tables = are_tables_copied(draft)?;
-    let programs = are_programs_copied(draft)?;
+    let tables = are_tables_copied(&draft.tables)?;
+    let programs = are_programs_copied(&draft.programs)?;
     Ok([whole, tables, programs])
 }
 
@@ -50,32 +68,49 @@ fn are_copied_of(alloc: Global, text: &str) -> Result<[bool; 3], Fail> {
 
 #[test]
 fn a_copy_is_the_same(rt: HostRuntime) -> Result<(), Fail> {
-    for text in [SMALL_BANK, PAY] {
+    for text in &[SMALL_BANK, PAY] {
         let copied = are_copied_of(rt.alloc(), text)?;
-        assert!(rt; copied == [true, true, true], "{text}");
+        is_so(&rt, text, copied == [true, true, true]);
     }
     Ok(())
 }
 
-fn are_names_copied(alloc: Global, names: &[Name]) -> Result<bool, AllocError> {
-    let copies = copy_names(alloc, names)?;
+fn are_same_names(copies: &[Name], names: &[Name]) -> bool {
     for (copy, name) in copies.iter().zip(names) {
         if !copy.is_same(name) {
-            return Ok(false);
+            return false;
         }
     }
-    Ok(copies.len() == names.len())
+    copies.len() == names.len()
 }
 
-/// Whether the list of a draft's tables and those of its programs' parameters are copied.
-fn are_lists_copied(alloc: Global, draft: &Draft) -> Result<bool, AllocError> {
-    for program in &draft.programs {
+fn are_names_copied(alloc: Global, names: &[Name]) -> Result<bool, AllocError> {
+    let copies = copy_names(alloc, names)?;
+    let are_same = are_same_names(&copies, names);
+    drop(copies);
+    Ok(are_same)
+}
+
+/// Whether the lists of the programs' parameters are copied.
+fn are_params_copied(alloc: Global, programs: &[Program]) -> Result<bool, AllocError> {
+    for program in programs {
         if !are_names_copied(alloc, &program.params)? {
             return Ok(false);
         }
     }
-    let tables = copy_tables(alloc, &draft.tables)?;
-    Ok(same_tables(&tables, &draft.tables))
+    Ok(true)
+}
+
+fn is_list_copied(alloc: Global, tables: &[TableDecl]) -> Result<bool, AllocError> {
+    let copies = copy_tables(alloc, tables)?;
+    let are_same = same_tables(&copies, tables);
+    drop(copies);
+    Ok(are_same)
+}
+
+/// Whether the list of a draft's tables and those of its programs' parameters are copied.
+fn are_lists_copied(alloc: Global, draft: &Draft) -> Result<bool, AllocError> {
+    Ok(are_params_copied(alloc, &draft.programs)? && is_list_copied(alloc, &draft.tables)?)
 }
 
 /// The same of the draft of a text.
@@ -88,18 +123,26 @@ fn are_lists_copied_of(alloc: Global, text: &str) -> Result<bool, Fail> {
 
 #[test]
 fn lists_are_copied(rt: HostRuntime) -> Result<(), Fail> {
-    for text in [SMALL_BANK, PAY] {
+    for text in &[SMALL_BANK, PAY] {
         let copied = are_lists_copied_of(rt.alloc(), text)?;
-        assert!(rt; copied, "{text}");
+        is_so(&rt, text, copied);
     }
     Ok(())
 }
 
+fn is_shown_so<T: Debug>(alloc: Global, copy: &T, wanted: &str) -> Result<bool, AllocError> {
+    let shown = format!(in alloc; "{copy:?}")?;
+    let is_so = shown.as_str() == wanted;
+    drop(shown);
+    Ok(is_so)
+}
+
 /// Whether a copy is shown as the first one is.
 fn is_shown_alike<T: Debug>(alloc: Global, copy: &T, first: &T) -> Result<bool, AllocError> {
-    let copy = format!(in alloc; "{copy:?}")?;
     let first = format!(in alloc; "{first:?}")?;
-    Ok(copy.as_str() == first.as_str())
+    let is_alike = is_shown_so(alloc, copy, first.as_str());
+    drop(first);
+    is_alike
 }
 
 fn is_test_copied(alloc: Global, test: &Test) -> Result<bool, AllocError> {

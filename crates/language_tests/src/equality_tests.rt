@@ -1,5 +1,6 @@
 //! When programs, tables and looks are the same, and the laws that stand as functions.
 
+use crate::told::is_so;
 use example_sets::set_of;
 use prog_check::{ProgramSet, soundness};
 use prog_tree::{
@@ -48,9 +49,9 @@ fn is_same_as(alloc: Global, set: &ProgramSet, text: &str) -> Result<(bool, bool
 }
 
 fn compare(rt: &impl Abort, alloc: Global, set: &ProgramSet) -> Result<(), Fail> {
-    for (text, same) in OTHERS {
+    for (text, same) in &OTHERS {
         let found = is_same_as(alloc, set, text)?;
-        assert!(rt; found == same, "{text}");
+        is_so(rt, text, found == *same);
     }
     Ok(())
 }
@@ -134,8 +135,8 @@ fn regions_are_the_same_by_table_and_ends(rt: HostRuntime) {
 #[test]
 fn words_are_the_same_by_their_bytes(rt: HostRuntime) {
     assert!(rt; same_bytes(b"total", b"total"));
-    for other in ["", "tota", "totals", "Total"] {
-        assert!(rt; !same_bytes(b"total", other.as_bytes()), "{other}");
+    for other in &["", "tota", "totals", "Total"] {
+        is_so(&rt, other, !same_bytes(b"total", other.as_bytes()));
     }
 }
 

@@ -20,7 +20,7 @@ const TEXT_FAULTS: [(TextFault, &str); 9] = [
 
 #[test]
 fn faults_of_texts_are_a_code_and_a_byte(rt: HostRuntime) -> Result<(), AllocError> {
-    for (fault, wanted) in TEXT_FAULTS {
+    for (fault, wanted) in &TEXT_FAULTS {
         let text = fault.to_string(rt.alloc())?;
         is_told(&rt, "a fault of a text", text.as_str(), wanted);
     }
@@ -78,7 +78,7 @@ const SET_FAULTS: [(CheckFault, &str); 12] = [
 
 #[test]
 fn faults_of_sets_are_a_code_and_a_place(rt: HostRuntime) -> Result<(), AllocError> {
-    for (fault, wanted) in SET_FAULTS {
+    for (fault, wanted) in &SET_FAULTS {
         let text = fault.to_string(rt.alloc())?;
         is_told(&rt, "a fault of a set", text.as_str(), wanted);
     }

@@ -1,5 +1,6 @@
 //! The reading of texts for people: words and signs, lines and columns, and where things begin.
 
+use crate::told::{is_so, is_so_at, is_told};
 use std::alloc::AllocError;
 use std::process::Abort;
 use std::test::Fail;
@@ -22,19 +23,32 @@ fn cut_out(text: &[u8]) -> [&str; 5] {
     ]
 }
 
+/// Texts, and what is cut out of them.
+const CUT_OUT: [(&str, [&str; 5]); 3] = [
+    ("put t[k] = v", ["put", "t[k] = v", "put", "t", "v"]),
+    ("..9]", ["", "..9]", "..", "9", "]"]),
+    ("k_2", ["k_2", "", "k_2", "", "k_2"]),
+];
+
 #[test]
 fn words_and_signs_are_cut_out(rt: HostRuntime) {
-    assert!(rt; cut_out(b"put t[k] = v") == ["put", "t[k] = v", "put", "t", "v"]);
-    assert!(rt; cut_out(b"..9]") == ["", "..9]", "..", "9", "]"]);
-    assert!(rt; cut_out(b"k_2") == ["k_2", "", "k_2", "", "k_2"]);
+    for (text, wanted) in &CUT_OUT {
+        is_so(&rt, text, cut_out(text.as_bytes()) == *wanted);
+    }
 }
 
 #[test]
 fn names_are_cut_out(rt: HostRuntime) {
-    assert!(rt; as_text(short_word(b"programmes")) == "programm");
-    assert!(rt; as_text(table_name(b"let x = get stock [k] else 0;")) == "stock");
+    is_told(
+        &rt,
+        "a short word",
+        as_text(short_word(b"programmes")),
+        "programm",
+    );
+    let table = table_name(b"let x = get stock [k] else 0;");
+    is_told(&rt, "the table", as_text(table), "stock");
+    is_told(&rt, "no text", as_text(b"\xff"), "");
     assert!(rt; key_place(b"get stock [k]") == 10);
-    assert!(rt; as_text(b"\xff") == "");
 }
 
 /// Two lines, the second inset by two spaces.
@@ -49,14 +63,20 @@ fn line_of(text: &[u8], place: usize) -> (usize, usize, &str) {
     )
 }
 
+/// Places, and their lines.
+const LINES_OF: [(usize, (usize, usize, &str)); 5] = [
+    (0, (1, 1, "table t 1;")),
+    (10, (1, 11, "table t 1;")),
+    (11, (2, 1, "  get u[7]")),
+    (17, (2, 7, "  get u[7]")),
+    (22, (3, 1, "")),
+];
+
 #[test]
 fn places_have_lines_and_columns(rt: HostRuntime) {
-    let text = LINES.as_bytes();
-    assert!(rt; line_of(text, 0) == (1, 1, "table t 1;"));
-    assert!(rt; line_of(text, 10) == (1, 11, "table t 1;"));
-    assert!(rt; line_of(text, 11) == (2, 1, "  get u[7]"));
-    assert!(rt; line_of(text, 17) == (2, 7, "  get u[7]"));
-    assert!(rt; line_of(text, 22) == (3, 1, ""));
+    for (place, wanted) in &LINES_OF {
+        is_so_at(&rt, *place, line_of(LINES.as_bytes(), *place) == *wanted);
+    }
 }
 
 /// Whether a place stands free, and whether a word or a token begins there.
@@ -68,15 +88,21 @@ fn beginnings(text: &[u8], place: usize) -> [bool; 3] {
     ]
 }
 
+/// Places, and what begins there.
+const BEGINNINGS: [(usize, [bool; 3]); 6] = [
+    (13, [true, true, true]),
+    (14, [false, false, false]),
+    (16, [false, false, false]),
+    (18, [false, false, true]),
+    (19, [true, true, true]),
+    (22, [true, false, false]),
+];
+
 #[test]
 fn words_and_signs_begin_at_places(rt: HostRuntime) {
-    let text = LINES.as_bytes();
-    assert!(rt; beginnings(text, 13) == [true, true, true]);
-    assert!(rt; beginnings(text, 14) == [false, false, false]);
-    assert!(rt; beginnings(text, 16) == [false, false, false]);
-    assert!(rt; beginnings(text, 18) == [false, false, true]);
-    assert!(rt; beginnings(text, 19) == [true, true, true]);
-    assert!(rt; beginnings(text, 22) == [true, false, false]);
+    for (place, wanted) in &BEGINNINGS {
+        is_so_at(&rt, *place, beginnings(LINES.as_bytes(), *place) == *wanted);
+    }
 }
 
 /// Where the first lines begin, by their numbers from 0.
@@ -93,10 +119,8 @@ fn fronts(text: &[u8]) -> [Option<usize>; 5] {
 #[test]
 fn lines_begin_behind_line_feeds(rt: HostRuntime) {
     let text = LINES.as_bytes();
-    assert!(rt; feeds(text) == 2);
-    assert!(rt; ends_line(text));
-    assert!(rt; !ends_line(before(text, 10)));
-    assert!(rt; as_text(behind(text, 13)) == "get u[7]\n");
+    assert!(rt; feeds(text) == 2 && ends_line(text) && !ends_line(before(text, 10)));
+    is_told(&rt, "behind", as_text(behind(text, 13)), "get u[7]\n");
     assert!(rt; fronts(text) == [None, Some(0), Some(11), Some(22), None]);
 }
 
@@ -116,14 +140,13 @@ fn places(set: &SetText<'_>, number: usize) -> [Option<usize>; 2] {
     [set.table_place(number), set.program_place(number)]
 }
 
-#[test]
-fn tables_and_programs_are_found(rt: HostRuntime) -> Result<(), AllocError> {
-    let set = SetText::new(rt.alloc(), SET.as_bytes())?;
-    assert!(rt; places(&set, 0) == [Some(15), Some(37)]);
-    assert!(rt; places(&set, 1) == [Some(26), Some(113)]);
-    assert!(rt; places(&set, 2) == [None, None]);
-    drop(set);
-    Ok(())
+/// Where those of the numbers from 0 on begin.
+const PLACES: [[Option<usize>; 2]; 3] = [[Some(15), Some(37)], [Some(26), Some(113)], [None, None]];
+
+fn check_places(rt: &impl Abort, set: &SetText<'_>) {
+    for (number, wanted) in PLACES.iter().enumerate() {
+        is_so_at(rt, number, places(set, number) == *wanted);
+    }
 }
 
 #[test]
@@ -143,58 +166,80 @@ const STATEMENTS: [(usize, usize, Option<usize>); 5] = [
 ];
 
 fn check_statements(rt: &impl Abort, set: &SetText<'_>) {
-    for (program, statement, place) in &STATEMENTS {
+    for (number, (program, statement, place)) in STATEMENTS.iter().enumerate() {
         let found = set.statement_place(*program, *statement);
-        assert!(rt; found == *place, "{program} {statement}");
+        is_so_at(rt, number, found == *place);
     }
 }
 
 #[test]
-fn statements_of_a_set_are_found(rt: HostRuntime) -> Result<(), AllocError> {
+fn parts_of_a_set_are_found(rt: HostRuntime) -> Result<(), AllocError> {
     let set = SetText::new(rt.alloc(), SET.as_bytes())?;
     assert!(rt; set.bytes() == SET.as_bytes());
+    check_places(&rt, &set);
     check_statements(&rt, &set);
     drop(set);
     Ok(())
 }
 
+/// A text with a comment, and the same with blanks in the comment's place.
+const COMMENTED: (&[u8], &[u8]) = (b"x # y\nz", b"x    \nz");
+
 #[test]
 fn comments_are_read_as_blanks(rt: HostRuntime) -> Result<(), Fail> {
-    let text = b"x # y\nz";
-    assert!(rt; without_comments(rt.alloc(), text)?.as_slice() == b"x    \nz".as_slice());
-    assert!(rt; last_end(b"x    \nz".as_slice(), 6) == 1);
+    let (text, wanted) = COMMENTED;
+    let plain = without_comments(rt.alloc(), text)?;
+    assert!(rt; plain.as_slice() == wanted);
+    drop(plain);
+    assert!(rt; last_end(wanted, 6) == 1);
+    Ok(())
+}
+
+#[test]
+fn the_text_of_a_set_has_blanks_for_comments(rt: HostRuntime) -> Result<(), AllocError> {
+    let (text, wanted) = COMMENTED;
     let set = SetText::new(rt.alloc(), text)?;
-    assert!(rt; set.plain() == b"x    \nz".as_slice());
+    assert!(rt; set.plain() == wanted);
     drop(set);
     Ok(())
 }
 
 #[test]
-fn words_are_listed(rt: HostRuntime) {
+fn words_are_listed(rt: HostRuntime) -> Result<(), AllocError> {
     let mut list = String::new(rt.alloc());
-    push_listed(&mut list, "t").expect(&rt, "memory");
-    push_listed(&mut list, "u").expect(&rt, "memory");
-    assert!(rt; list.as_str() == "t, u");
+    for word in &["t", "u"] {
+        push_listed(&mut list, word)?;
+    }
+    is_told(&rt, "the list", list.as_str(), "t, u");
+    drop(list);
+    Ok(())
 }
+
+/// Numbers, and how they stand in brackets.
+const BRACKETED: [(&[i64], &str); 3] = [(&[], "()"), (&[7], "(7)"), (&[1, -2, 3], "(1, -2, 3)")];
 
 #[test]
 fn numbers_stand_in_brackets(rt: HostRuntime) -> Result<(), AllocError> {
-    assert!(rt; bracketed(rt.alloc(), &[])?.as_str() == "()");
-    assert!(rt; bracketed(rt.alloc(), &[7])?.as_str() == "(7)");
-    assert!(rt; bracketed(rt.alloc(), &[1, -2, 3])?.as_str() == "(1, -2, 3)");
+    for (numbers, wanted) in &BRACKETED {
+        let found = bracketed(rt.alloc(), numbers)?;
+        is_told(&rt, "brackets", found.as_str(), wanted);
+    }
     Ok(())
 }
 
 #[test]
 fn places_are_pointed_out(rt: HostRuntime) -> Result<(), AllocError> {
     let told = point_out(rt.alloc(), LINES.as_bytes(), 17, "no table u")?;
-    assert!(rt; told.as_str() == "line 2, column 7: no table u\n    get u[7]\n        ^\n");
+    let wanted = "line 2, column 7: no table u\n    get u[7]\n        ^\n";
+    is_told(&rt, "point_out", told.as_str(), wanted);
+    drop(told);
     Ok(())
 }
 
 #[test]
 fn what_a_terminal_would_obey_is_made_visible(rt: HostRuntime) -> Result<(), AllocError> {
     let shown = visible_text(rt.alloc(), b"t\x1b[2m\xc3\tu")?;
-    assert!(rt; shown.as_str() == "t?[2m? u");
+    is_told(&rt, "visible", shown.as_str(), "t?[2m? u");
+    drop(shown);
     Ok(())
 }

@@ -93,21 +93,21 @@ fn shown_state(alloc: Global, run: &Run<'_>) -> Result<String, AllocError> {
     format!(in alloc; "{done} {looks} {:?} {end:?}", run.replies())
 }
 
-// Rows, one after another, where there are some to tell.
-fn shown_rows(alloc: Global, found: Option<&RowPieces>) -> Result<String, AllocError> {
-    let Some(rows) = found else {
-        return format!(in alloc; "None");
-    };
-    let mut listed = Vec::with_capacity(alloc, rows.len())?;
-    let mut left = rows.walk();
-    for _row in 0..rows.len() {
-        let Some((row, behind)) = left.split_first() else {
-            break;
-        };
-        listed.push(*row)?;
-        left = behind;
+// The rows of pieces, one after another.
+fn shown_listed(alloc: Global, rows: &RowPieces) -> Result<String, AllocError> {
+    let mut listed = Vec::new(alloc);
+    for piece in rows.pieces() {
+        listed.extend_from_slice(piece.rows())?;
     }
     format!(in alloc; "Some({listed:?})")
+}
+
+// The same where there are some to tell.
+fn shown_rows(alloc: Global, found: Option<&RowPieces>) -> Result<String, AllocError> {
+    match found {
+        Some(rows) => shown_listed(alloc, rows),
+        None => format!(in alloc; "None"),
+    }
 }
 
 /// The rows that the last look found, where it was at the cells from 1 to 3, and where from 1 to 2.

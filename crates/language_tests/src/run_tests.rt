@@ -1,6 +1,6 @@
 //! Runs step by step: the questions that they ask, and what their readers say.
 
-ghost use Rattle.std.specs.Prelude.{◌≡◌};
+ghost use Rattle.std.specs.Prelude.{◌≡◌, []};
 ghost use Rattle.prog_run.specs.Step.{question_after};
 
 use crate::played::{CELL_1_0, CELL_2_0, CELL_7_1, CELL_7_3, Example, play, shown_begin};
@@ -105,6 +105,13 @@ fn rows_from_elsewhere_are_refused(rt: HostRuntime) -> Result<(), Fail> {
     play(&rt, rt.alloc(), &ROWS_FROM_ELSEWHERE)
 }
 
+/// What a run begins with. It is let go.
+fn shown_begun(alloc: Global, run: Run<'_>) -> Result<String, AllocError> {
+    let shown = shown_begin(alloc, &run);
+    drop(run);
+    shown
+}
+
 /// What a begin comes to.
 fn begun(
     alloc: Global,
@@ -113,11 +120,7 @@ fn begun(
     args: &[i64],
 ) -> Result<String, AllocError> {
     match Run::new(alloc, set, program, args) {
-        Ok(run) => {
-            let shown = shown_begin(alloc, &run);
-            drop(run);
-            shown
-        }
+        Ok(run) => shown_begun(alloc, run),
         Err(fault) => fault.to_string(alloc),
     }
 }
@@ -242,18 +245,31 @@ fn asked_for(rt: &impl Abort, run: &mut Run<'_>) -> Region
     region
 }
 
-fn take_known(rt: &impl Abort, alloc: Global, set: &ProgramSet) {
-    let mut run = Run::new(alloc, set, 0, &[]).expect(rt, "a run");
-    let region = asked_for(rt, &mut run);
-    let rows = RowPieces::from_list(Sequence::new(alloc)).expect(rt, "memory");
-    let next = run.answer_rows(rows).expect(rt, "memory");
+/// No rows.
+fn no_rows(rt: &impl Abort, alloc: Global) -> RowPieces
+    ensures { result ≡ [] }
+{
+    RowPieces::from_list(Sequence::new(alloc)).expect(rt, "memory")
+}
+
+/// A run that asks for rows is told that none lie there.
+fn take_known(rt: &impl Abort, alloc: Global, run: &mut Run<'_>) {
+    let region = asked_for(rt, run);
+    let next = run.answer_rows(no_rows(rt, alloc)).expect(rt, "memory");
     assert!(rt; next == Next::Did(Deed::Summed(region, 0)));
+}
+
+fn take_known_in(rt: &impl Abort, alloc: Global, set: &ProgramSet) -> Result<(), Fail> {
+    let mut run = Run::new(alloc, set, 0, &[])?;
+    take_known(rt, alloc, &mut run);
+    drop(run);
+    Ok(())
 }
 
 #[test]
 fn rows_that_are_known_to_lie_there_are_taken(rt: HostRuntime) -> Result<(), Fail> {
     let set = set_of(rt.alloc(), TOTALS)?;
-    take_known(&rt, rt.alloc(), &set);
+    let taken = take_known_in(&rt, rt.alloc(), &set);
     drop(set);
-    Ok(())
+    taken
 }

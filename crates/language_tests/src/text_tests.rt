@@ -1,5 +1,6 @@
 //! Texts that are read, copied and printed.
 
+use crate::told::{is_so, is_so_at};
 use example_sets::SMALL_BANK;
 use prog_text::{
     Beginning, TextFault, beginning_of, is_letter, is_reserved, is_space, is_word_byte, parse,
@@ -50,53 +51,66 @@ program All(a, b) {
 }
 ";
 
+/// Words, whether they are reserved, and what they begin.
+const WORDS: [(&str, bool, Option<Beginning>); 5] = [
+    ("table", true, Some(Beginning::Table)),
+    ("program", true, Some(Beginning::Program)),
+    ("each", true, Some(Beginning::Statement)),
+    ("get", true, None),
+    ("tables", false, None),
+];
+
 #[test]
 fn words_are_reserved_and_begin_what_they_begin(rt: HostRuntime) {
-    for (word, is_word, beginning) in [
-        ("table", true, Some(Beginning::Table)),
-        ("program", true, Some(Beginning::Program)),
-        ("each", true, Some(Beginning::Statement)),
-        ("get", true, None),
-        ("tables", false, None),
-    ] {
-        assert!(rt; is_reserved(word.as_bytes()) == is_word, "{word}");
-        assert!(rt; beginning_of(word.as_bytes()) == beginning, "{word}");
+    for (word, is_word, beginning) in &WORDS {
+        is_so(&rt, word, is_reserved(word.as_bytes()) == *is_word);
+        is_so(&rt, word, beginning_of(word.as_bytes()) == *beginning);
     }
     assert!(rt; reserved_words().len() == 24);
 }
 
+/// Bytes, and whether they begin a word, go on in a word and stand between words.
+const BYTES: [(u8, [bool; 3]); 6] = [
+    (b'A', [true, true, false]),
+    (b'z', [true, true, false]),
+    (b'_', [true, true, false]),
+    (b'0', [false, true, false]),
+    (b'\r', [false, false, true]),
+    (b'-', [false, false, false]),
+];
+
 #[test]
 fn bytes_begin_words_go_on_words_and_stand_between_them(rt: HostRuntime) {
-    for (byte, begins, goes_on, is_between) in [
-        (b'A', true, true, false),
-        (b'z', true, true, false),
-        (b'_', true, true, false),
-        (b'0', false, true, false),
-        (b'\r', false, false, true),
-        (b'-', false, false, false),
-    ] {
-        assert!(rt; is_letter(byte) == begins, "{byte}");
-        assert!(rt; is_word_byte(byte) == goes_on, "{byte}");
-        assert!(rt; is_space(byte) == is_between, "{byte}");
+    for (byte, wanted) in &BYTES {
+        let found = [is_letter(*byte), is_word_byte(*byte), is_space(*byte)];
+        is_so_at(&rt, *byte as usize, found == *wanted);
     }
+}
+
+/// Texts, and what they are refused for.
+const REFUSED: [(&str, TextFault); 4] = [
+    ("program P( {", TextFault::UnexpectedToken { place: 11 }),
+    ("table t 1; @", TextFault::UnknownByte { place: 11 }),
+    (
+        "table t 1; program P() { each k v in t[1..3] { } }",
+        TextFault::UnexpectedToken { place: 32 },
+    ),
+    (
+        "table t 1; program P() { each k, v in",
+        TextFault::UnexpectedEnd { place: 37 },
+    ),
+];
+
+// The fault of a text that is refused.
+fn fault_of(alloc: Global, text: &[u8]) -> Option<TextFault> {
+    parse(alloc, text).err()
 }
 
 #[test]
 fn refusals_have_their_place(rt: HostRuntime) {
-    for (text, fault) in [
-        ("program P( {", TextFault::UnexpectedToken { place: 11 }),
-        ("table t 1; @", TextFault::UnknownByte { place: 11 }),
-        (
-            "table t 1; program P() { each k v in t[1..3] { } }",
-            TextFault::UnexpectedToken { place: 32 },
-        ),
-        (
-            "table t 1; program P() { each k, v in",
-            TextFault::UnexpectedEnd { place: 37 },
-        ),
-    ] {
-        let found = parse(rt.alloc(), text.as_bytes()).err();
-        assert!(rt; found == Some(fault), "{text}");
+    for (text, fault) in &REFUSED {
+        let found = fault_of(rt.alloc(), text.as_bytes());
+        is_so(&rt, text, found == Some(*fault));
     }
 }
 
@@ -123,7 +137,7 @@ fn each_cut_is_read_or_stops_at_its_end(rt: HostRuntime) {
     let text = SMALL_BANK.as_bytes();
     for len in 0..=text.len() {
         let cut = &text[..len];
-        let fault = parse(rt.alloc(), cut).err();
+        let fault = fault_of(rt.alloc(), cut);
         assert!(rt; is_answer_to_a_cut(cut, fault), "{len}: {fault:?}");
     }
 }

@@ -102,24 +102,47 @@ fn lines_come_to_their_values(rt: HostRuntime) -> Result<(), Fail> {
     checked
 }
 
-/// A name is bound to 1, then to 3, and its copy is asked for, behind the cut of the second too.
-fn check_bindings(rt: &impl Abort, alloc: Global, name: &Name, same: &Name) {
+/// A name that is bound to 1, then to 3.
+fn bound_twice<'n>(alloc: Global, name: &'n Name) -> Result<Env<'n>, AllocError> {
     let mut env = Env::new(alloc);
-    env.bind(name, 1).expect(rt, "memory");
-    env.bind(name, 3).expect(rt, "memory");
-    assert!(rt; env.get(same) == Some(3));
+    for value in &[1, 3] {
+        env.bind(name, *value)?;
+    }
+    Ok(env)
+}
+
+/// A name's copy is asked for, behind the cut of the second binding too.
+fn check_bindings(rt: &impl Abort, env: &mut Env<'_>, copy: &Name) {
+    assert!(rt; env.get(copy) == Some(3));
     env.cut(1);
-    assert!(rt; env.get(same) == Some(1));
-    assert!(rt; env.len() == 1);
+    assert!(rt; env.get(copy) == Some(1) && env.len() == 1);
+}
+
+/// Binds a name, of which there is a copy.
+fn check_bound_twice(
+    rt: &impl Abort,
+    alloc: Global,
+    name: &Name,
+    copy: &Name,
+) -> Result<(), AllocError> {
+    assert!(rt; copy.as_str() == "x" && name.is_same(copy));
+    let mut env = bound_twice(alloc, name)?;
+    check_bindings(rt, &mut env, copy);
     drop(env);
+    Ok(())
+}
+
+fn check_copy(rt: &impl Abort, alloc: Global, name: &Name) -> Result<(), AllocError> {
+    let copy = name.copy()?;
+    let checked = check_bound_twice(rt, alloc, name, &copy);
+    drop(copy);
+    checked
 }
 
 #[test]
-fn the_last_binding_of_a_name_counts(rt: HostRuntime) {
-    let x = Name::new(rt.alloc(), "x").expect(&rt, "memory");
-    let same = x.copy().expect(&rt, "memory");
-    assert!(rt; same.as_str() == "x" && x.is_same(&same));
-    check_bindings(&rt, rt.alloc(), &x, &same);
-    drop(same);
+fn the_last_binding_of_a_name_counts(rt: HostRuntime) -> Result<(), AllocError> {
+    let x = Name::new(rt.alloc(), "x")?;
+    let checked = check_copy(&rt, rt.alloc(), &x);
     drop(x);
+    checked
 }

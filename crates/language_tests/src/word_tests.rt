@@ -8,7 +8,7 @@ use fault_words::{
     program_name, program_names, program_params, region_text, table_names,
 };
 use prog_check::ProgramSet;
-use prog_tree::{Cell, Region};
+use prog_tree::{Cell, Draft, Region};
 use std::alloc::{AllocError, Global};
 use std::process::Abort;
 use std::test::Fail;
@@ -26,8 +26,8 @@ const ORDINALS: [(usize, &str); 7] = [
 
 #[test]
 fn numbers_are_places_in_a_row(rt: HostRuntime) -> Result<(), AllocError> {
-    for (number, wanted) in ORDINALS {
-        let found = ordinal(rt.alloc(), number)?;
+    for (number, wanted) in &ORDINALS {
+        let found = ordinal(rt.alloc(), *number)?;
         is_told(&rt, "ordinal", found.as_str(), wanted);
     }
     Ok(())
@@ -42,9 +42,14 @@ const MEANT: [(&str, &str); 2] = [
 ];
 
 #[test]
+fn the_nearest_name_is_found(rt: HostRuntime) {
+    let found = nearest_name(rt.alloc(), "stok", &NAMES);
+    assert!(rt; found == Ok(Some("stock")));
+}
+
+#[test]
 fn the_name_that_was_meant_is_told(rt: HostRuntime) -> Result<(), AllocError> {
-    assert!(rt; nearest_name(rt.alloc(), "stok", &NAMES)? == Some("stock"));
-    for (word, wanted) in MEANT {
+    for (word, wanted) in &MEANT {
         let found = known_names(rt.alloc(), word, &NAMES)?;
         is_told(&rt, word, found.as_str(), wanted);
     }
@@ -81,8 +86,8 @@ const CELLS: [(Cell, &str); 2] = [
 ];
 
 fn check_cells(rt: &impl Abort, alloc: Global, set: &ProgramSet) -> Result<(), AllocError> {
-    for (cell, wanted) in CELLS {
-        let found = cell_text(alloc, set, cell)?;
+    for (cell, wanted) in &CELLS {
+        let found = cell_text(alloc, set, *cell)?;
         is_told(rt, "cell", found.as_str(), wanted);
     }
     Ok(())
@@ -103,12 +108,26 @@ fn check_region(rt: &impl Abort, alloc: Global, set: &ProgramSet) -> Result<(), 
     Ok(())
 }
 
+/// How the tables are called.
+fn check_tables(rt: &impl Abort, alloc: Global, draft: &Draft) -> Result<(), AllocError> {
+    let names = table_names(alloc, draft)?;
+    assert!(rt; names.as_slice() == ["closed", "entry"].as_slice());
+    drop(names);
+    Ok(())
+}
+
+/// How the programs are called.
+fn check_programs(rt: &impl Abort, alloc: Global, draft: &Draft) -> Result<(), AllocError> {
+    let names = program_names(alloc, draft)?;
+    assert!(rt; names.as_slice() == ["Post", "Close", "Total"].as_slice());
+    drop(names);
+    Ok(())
+}
+
 /// How the tables and the programs are called, and the parameters of the second.
 fn check_names(rt: &impl Abort, alloc: Global, set: &ProgramSet) -> Result<(), AllocError> {
-    let names = table_names(alloc, set.draft())?;
-    assert!(rt; names.as_slice() == ["closed", "entry"].as_slice());
-    let names = program_names(alloc, set.draft())?;
-    assert!(rt; names.as_slice() == ["Post", "Close", "Total"].as_slice());
+    check_tables(rt, alloc, set.draft())?;
+    check_programs(rt, alloc, set.draft())?;
     assert!(rt; program_name(set, 1) == "Close");
     assert!(rt; program_params(set.draft(), 1).len() == 1);
     Ok(())
