@@ -14,26 +14,46 @@ use std::alloc::{AllocError, Global};
 use std::process::Abort;
 use std::test::Fail;
 
+/// What is asked of the engine, as plain data.
+#[derive(Clone, Copy)]
+enum Asked {
+    /// A program and its arguments.
+    Begin(usize, &'static [i64]),
+    Step(usize),
+    Commit(usize),
+}
+
+/// `Set(1, 5)` commits beside a `Look(1)`, which has to stand before it: it saw no row.
+const ASKED: [Asked; 8] = [
+    Asked::Begin(SET, &[1, 5]),
+    Asked::Begin(LOOK, &[1]),
+    Asked::Step(0),
+    Asked::Step(0),
+    Asked::Commit(0),
+    Asked::Step(1),
+    Asked::Step(1),
+    Asked::Commit(1),
+];
+
 fn begin(alloc: Global, program: usize, args: &[i64]) -> Result<Event, AllocError> {
     let args = Sequence::from_slice(alloc, args)?;
     Ok(Event::Begin { program, args })
 }
 
-/// `Set(1, 5)` commits beside a `Look(1)`, which has to stand before it: it saw no row.
+fn event(alloc: Global, asked: &Asked) -> Result<Event, AllocError> {
+    match asked {
+        Asked::Begin(program, args) => begin(alloc, *program, args),
+        Asked::Step(number) => Ok(Event::Step(*number)),
+        Asked::Commit(number) => Ok(Event::Commit(*number)),
+    }
+}
+
 fn events(alloc: Global) -> Result<Vec<Event>, AllocError> {
-    let set = begin(alloc, SET, &[1, 5])?;
-    let look = begin(alloc, LOOK, &[1])?;
-    let events = [
-        set,
-        look,
-        Event::Step(0),
-        Event::Step(0),
-        Event::Commit(0),
-        Event::Step(1),
-        Event::Step(1),
-        Event::Commit(1),
-    ];
-    Ok(Vec::from_array(alloc, events)?)
+    let mut events = Vec::new(alloc);
+    for asked in &ASKED {
+        events.push(event(alloc, asked)?)?;
+    }
+    Ok(events)
 }
 
 fn is_ordered(outcome: &Outcome) -> bool {
@@ -76,11 +96,15 @@ fn row_of(
     })
 }
 
-/// The same commits as records.
+/// The same commits as records: the program, its arguments and its replies.
+const RECORDS: [(usize, &[i64], &[i64]); 2] = [(SET, &[1, 5], &[]), (LOOK, &[1], &[-1])];
+
 fn records(alloc: Global) -> Result<Vec<HistoryRow>, AllocError> {
-    let set = row_of(alloc, SET, &[1, 5], &[])?;
-    let look = row_of(alloc, LOOK, &[1], &[-1])?;
-    Ok(Vec::from_array(alloc, [set, look])?)
+    let mut records = Vec::new(alloc);
+    for (program, args, replies) in &RECORDS {
+        records.push(row_of(alloc, *program, args, replies)?)?;
+    }
+    Ok(records)
 }
 
 /// The order of the commits of a book of records.

@@ -72,17 +72,39 @@ struct Case {
     counts: (u64, usize),
 }
 
-// Makes the calls on a book and on a shared book: the answers have to be the same, and as wanted
-// where that is said, and so has what both keep.
+/// What calls came to: their answers and the book.
+#[derive(Drop)]
+struct Made<'a> {
+    answers: Vec<Answer>,
+    book: Book<'a>,
+}
+
+// Makes the calls on a book that is shared or not.
+fn make<'a, R: Wait + Abort>(
+    rt: &R,
+    alloc: Global,
+    set: &'a ProgramSet,
+    case: &Case,
+    is_shared: bool,
+) -> Made<'a> {
+    let mut bench = bench(rt, alloc, set, case.rows, is_shared);
+    let answers = answers_of(rt, alloc, &mut bench, case.calls);
+    let book = bench.into_book();
+    Made { answers, book }
+}
+
+// The answers have to be the same, and as wanted where that is said, and so has what both keep.
+fn compare(rt: &impl Abort, alone: &Made<'_>, shared: &Made<'_>, case: &Case) {
+    assert!(rt; shared.answers.as_slice() == alone.answers.as_slice());
+    check_answers(rt, case.calls, &alone.answers);
+    check_kept(rt, &alone.book, &shared.book, case.counts);
+}
+
+// Makes the calls on a book and on a shared book, and compares what they come to.
 fn check_both<R: Wait + Abort>(rt: &R, alloc: Global, set: &ProgramSet, case: &Case) {
-    let mut alone = bench(rt, alloc, set, case.rows, false);
-    let mut shared = bench(rt, alloc, set, case.rows, true);
-    let answers = answers_of(rt, alloc, &mut alone, case.calls);
-    let others = answers_of(rt, alloc, &mut shared, case.calls);
-    assert!(rt; others.as_slice() == answers.as_slice());
-    check_answers(rt, case.calls, &answers);
-    let (alone, shared) = (alone.into_book(), shared.into_book());
-    check_kept(rt, &alone, &shared, case.counts);
+    let alone = make(rt, alloc, set, case, false);
+    let shared = make(rt, alloc, set, case, true);
+    compare(rt, &alone, &shared, case);
     drop(alone);
     drop(shared);
 }

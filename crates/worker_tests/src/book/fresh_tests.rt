@@ -54,11 +54,23 @@ fn kept(rt: &impl Abort, book: &Book<'_>) -> (u64, Option<i64>) {
     (book.commits(), rows.get(&cell(1)))
 }
 
+// What a look finds that is begun after a commit.
+fn look_after_five<'a, R: Abort + Wait>(
+    rt: &R,
+    alloc: Global,
+    set: &'a ProgramSet,
+    shared: &SharedBook<'a>,
+) -> Result<(u64, Option<i64>), BeginAfterFault> {
+    let receipt = set_five(rt, alloc, set, shared);
+    let looked = look_after(rt, shared, &receipt);
+    drop(receipt);
+    looked
+}
+
 // The look has to see the commit, and so has the book.
 fn check_fresh<R: Abort + Wait>(rt: &R, alloc: Global, set: &ProgramSet) {
     let shared = open(rt, alloc, set);
-    let receipt = set_five(rt, alloc, set, &shared);
-    let looked = look_after(rt, &shared, &receipt);
+    let looked = look_after_five(rt, alloc, set, &shared);
     let book = shared.into_book();
     let kept = kept(rt, &book);
     drop(book);
@@ -91,18 +103,30 @@ fn check_active(rt: &impl Abort, book: &mut Book<'_>, ticket: Ticket) {
     assert!(rt; book.vacuum() == 1);
 }
 
+// A look is begun after a receipt of another book, which this one has to be behind; then there is
+// a commit.
+fn check_look<'a, R: Abort + Wait>(
+    rt: &R,
+    alloc: Global,
+    set: &'a ProgramSet,
+    shared: &SharedBook<'a>,
+) {
+    let receipt = third_receipt(rt, alloc, set);
+    let looked = look_after(rt, shared, &receipt);
+    drop(receipt);
+    assert!(rt; looked == Err(BeginAfterFault::Behind { commits: 0 }));
+    drop(set_five(rt, alloc, set, shared));
+}
+
 // A book without commits has to be behind a receipt of another, with the active instances as
 // before.
 fn check_behind<R: Abort + Wait>(rt: &R, alloc: Global, set: &ProgramSet) {
-    let receipt = third_receipt(rt, alloc, set);
     let shared = open(rt, alloc, set);
     let ticket = shared.begin(rt, LOOK, &[1]).expect(rt, "a ticket");
-    let looked = look_after(rt, &shared, &receipt);
-    set_five(rt, alloc, set, &shared);
+    check_look(rt, alloc, set, &shared);
     let mut book = shared.into_book();
     check_active(rt, &mut book, ticket);
     drop(book);
-    assert!(rt; looked == Err(BeginAfterFault::Behind { commits: 0 }));
 }
 
 #[test]

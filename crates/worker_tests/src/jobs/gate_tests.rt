@@ -1,6 +1,6 @@
 //! Two workers really at once: a gate lets each job go on only once another has come so far.
 
-use crate::jobs::lists::{Call, jobs_of, run};
+use crate::jobs::lists::{Call, run_calls};
 use crate::jobs::meeting::{Hold, Meeting};
 use crate::jobs::outcomes::{Came, check_outcomes};
 use crate::jobs::overtaking::Overtaking;
@@ -30,9 +30,8 @@ fn cross<R: Threads + Wait + Clock + Abort + Sync>(
     calls: &[Call],
     wanted: &[(Came, u64)],
 ) {
-    let jobs = jobs_of(alloc, calls).expect(rt, "memory");
     let gate = Meeting::new(rt, &CROSSED);
-    let finished = run(rt, alloc, set, &[], &jobs, 2, &gate);
+    let finished = run_calls(rt, alloc, set, &[], calls, 2, &gate);
     assert!(rt; gate.was_kept());
     check_outcomes(rt, finished.outcomes.as_slice(), wanted);
     drop(finished);
@@ -98,9 +97,8 @@ const OVERTAKEN_ENDS: [(Came, u64); 3] = [
 ];
 
 fn overtake<R: Threads + Wait + Clock + Abort + Sync>(rt: &R, alloc: Global, set: &RobustSet) {
-    let jobs = jobs_of(alloc, &OVERTAKEN).expect(rt, "memory");
     let gate = Overtaking::new(rt);
-    let finished = run(rt, alloc, set, &[], &jobs, 2, &gate);
+    let finished = run_calls(rt, alloc, set, &[], &OVERTAKEN, 2, &gate);
     assert!(rt; gate.was_kept(2));
     check_outcomes(rt, finished.outcomes.as_slice(), &OVERTAKEN_ENDS);
     drop(finished);

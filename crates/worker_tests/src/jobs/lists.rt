@@ -60,3 +60,19 @@ pub fn run<'a, R: Threads + Wait + Abort + Sync, G: Gate + Sync>(
     let rows = rows_of(alloc, rows).expect(rt, "memory");
     run_jobs(rt, alloc, set, rows, jobs, workers, gate).expect(rt, "no fault")
 }
+
+/// Runs the jobs of calls, which have no fault.
+pub fn run_calls<'a, R: Threads + Wait + Abort + Sync, G: Gate + Sync>(
+    rt: &R,
+    alloc: Global,
+    set: &'a RobustSet,
+    rows: &[(i64, i64)],
+    calls: &[Call],
+    workers: usize,
+    gate: &G,
+) -> Finished<'a> {
+    let jobs = jobs_of(alloc, calls).expect(rt, "memory");
+    let finished = run(rt, alloc, set, rows, &jobs, workers, gate);
+    drop(jobs);
+    finished
+}

@@ -5,10 +5,13 @@ use crate::book::kept::have_same_rows;
 use crate::jobs::lists::{Call, jobs_of};
 use crate::sets::{CUT, LOOK, REGISTERS, SET, robust, rows_of};
 use history_book::{AuditFault, Book, HistoryRow, OrderFault};
-use si_workers::{Finished, NoGate, WorkFault, run_jobs};
+use robust_cert::RobustSet;
+use si_workers::{Finished, Job, NoGate, WorkFault, run_jobs};
 use std::alloc::{AllocError, Global};
 use std::process::Abort;
+use std::sync::Wait;
 use std::test::Fail;
+use std::thread::Threads;
 
 const WORKERS: usize = 2;
 
@@ -56,17 +59,20 @@ fn rows_in(alloc: Global, book: &Book<'_>) -> Result<Vec<HistoryRow>, AllocError
     Ok(rows)
 }
 
+// Whether a book has as many commits as another, and the same table. It is let go.
+fn is_same_book(audited: Book<'_>, book: &Book<'_>) -> Result<bool, AllocError> {
+    let has_commits = audited.commits() == book.commits();
+    let is_same = have_same_rows(&audited, book);
+    drop(audited);
+    Ok(is_same? && has_commits)
+}
+
 // Whether the commits of a book, given as rows, have a book with the same table.
 fn is_right(alloc: Global, book: &Book<'_>) -> Result<bool, AllocError> {
     let rows = rows_in(alloc, book)?;
     let opening = book.opening().copy()?;
     match Book::audit(alloc, book.set(), opening, rows) {
-        Ok(audited) => {
-            let is_same = have_same_rows(&audited, book);
-            let commits = audited.commits();
-            drop(audited);
-            Ok(is_same? && commits == book.commits())
-        }
+        Ok(audited) => is_same_book(audited, book),
         Err(AuditFault::Memory) => Err(AllocError),
         Err(_) => Ok(false),
     }
@@ -119,15 +125,28 @@ fn check_answer(
     true
 }
 
-// Until it has its jobs, a want of memory is an error of the test.
+// Runs jobs, and looks at what comes of them.
+fn check_jobs<R: Threads + Wait + Abort + Sync>(
+    rt: &R,
+    alloc: Global,
+    set: &RobustSet,
+    jobs: &[Job],
+) -> Result<bool, AllocError> {
+    let rows = rows_of(alloc, &[(1, 5)])?;
+    let answer = run_jobs(rt, alloc, set, rows, jobs, WORKERS, &NoGate);
+    let is_right = check_answer(rt, alloc, &answer);
+    drop(answer);
+    Ok(is_right)
+}
+
+// Until it has its jobs and its rows, a want of memory is an error of the test.
 #[test]
 fn refused_requests_leave_a_right_book(rt: HostRuntime) -> Result<(), Fail> {
     let jobs = jobs_of(rt.alloc(), &CALLS)?;
-    let rows = rows_of(rt.alloc(), &[(1, 5)])?;
     let set = robust(rt.alloc(), &REGISTERS)?;
-    let answer = run_jobs(&rt, rt.alloc(), &set, rows, &jobs, WORKERS, &NoGate);
-    assert!(rt; check_answer(&rt, rt.alloc(), &answer));
-    drop(answer);
+    let checked = check_jobs(&rt, rt.alloc(), &set, &jobs);
     drop(set);
+    drop(jobs);
+    assert!(rt; checked?);
     Ok(())
 }

@@ -1,11 +1,11 @@
 //! Two workers inside a read of the book at once: a lock that one reader keeps from another fails.
 
-use crate::jobs::lists::{Call, jobs_of, run};
+use crate::jobs::lists::{Call, run_calls};
 use crate::jobs::meeting::{Hold, Meeting};
 use crate::jobs::outcomes::commits;
 use crate::sets::{LOOK, OVERFLOW, REGISTERS, TOTAL, robust};
 use robust_cert::RobustSet;
-use si_workers::Moment;
+use si_workers::{Finished, Moment};
 use std::alloc::Global;
 use std::process::Abort;
 use std::sync::Wait;
@@ -22,6 +22,12 @@ const BESIDE: [Hold; 4] = [
     ((1, Moment::InRead), (0, Moment::InRead)),
 ];
 
+fn check_committed(rt: &impl Abort, alloc: Global, finished: &Finished<'_>) {
+    let numbers = commits(rt, alloc, finished.outcomes.as_slice());
+    assert!(rt; numbers.as_slice() == [1, 2].as_slice());
+    drop(numbers);
+}
+
 // Runs two jobs on two workers, side by side in their reads: both have to commit.
 fn read_beside<R: Threads + Wait + Clock + Abort + Sync>(
     rt: &R,
@@ -29,13 +35,11 @@ fn read_beside<R: Threads + Wait + Clock + Abort + Sync>(
     set: &RobustSet,
     calls: &[Call],
 ) {
-    let jobs = jobs_of(alloc, calls).expect(rt, "memory");
     let gate = Meeting::new(rt, &BESIDE);
-    let finished = run(rt, alloc, set, &[(1, 5), (2, 7)], &jobs, 2, &gate);
+    let finished = run_calls(rt, alloc, set, &[(1, 5), (2, 7)], calls, 2, &gate);
     assert!(rt; gate.was_kept());
-    let numbers = commits(rt, alloc, finished.outcomes.as_slice());
+    check_committed(rt, alloc, &finished);
     drop(finished);
-    assert!(rt; numbers.as_slice() == [1, 2].as_slice());
 }
 
 #[test]

@@ -1,14 +1,14 @@
 //! Many jobs at once, and how much is too much.
 
-use crate::jobs::lists::{Call, hundred_transfers, jobs_of, many, run};
+use crate::jobs::lists::{Call, hundred_transfers, jobs_of, many, run, run_calls};
 use crate::jobs::meeting::Meeting;
 use crate::jobs::outcomes::{Came, check_outcomes, commits};
 use crate::sets::{MAYBE, OVERFLOW, REGISTERS, TOTAL, TRANSFERS, robust, rows_of};
 use history_book::{BeginFault, Book};
 use prog_tree::{Cause, Rows};
 use robust_cert::RobustSet;
-use si_workers::{Finished, Job, Moment, NoGate, WorkFault, do_jobs, run_jobs};
-use std::alloc::Global;
+use si_workers::{Finished, Gate, Job, Moment, NoGate, WorkFault, Worked, do_jobs, run_jobs};
+use std::alloc::{AllocError, Global};
 use std::process::Abort;
 use std::sync::Wait;
 use std::test::Fail;
@@ -29,20 +29,44 @@ fn check_commits(rt: &impl Abort, alloc: Global, finished: &Finished<'_>) {
     assert!(rt; finished.book.fits(finished.order.as_slice()) == Ok(true));
 }
 
-fn check_rows(rt: &impl Abort, alloc: Global, book: &Book<'_>) {
-    let first = rows_of(alloc, &FOUR).expect(rt, "memory");
-    assert!(rt; book.table().expect(rt, "memory").is_same(&first));
+// Whether a book has these rows.
+fn has_rows(alloc: Global, book: &Book<'_>, rows: &[(i64, i64)]) -> Result<bool, AllocError> {
+    let wanted = rows_of(alloc, rows)?;
+    let is_so = is_table(book, &wanted);
+    drop(wanted);
+    is_so
+}
+
+fn is_table(book: &Book<'_>, wanted: &Rows) -> Result<bool, AllocError> {
+    let table = book.table()?;
+    let is_same = table.is_same(wanted);
+    drop(table);
+    Ok(is_same)
+}
+
+fn transferred<'a, R: Threads + Wait + Abort + Sync>(
+    rt: &R,
+    alloc: Global,
+    set: &'a RobustSet,
+) -> Finished<'a> {
+    let jobs = hundred_transfers(alloc).expect(rt, "memory");
+    let finished = run(rt, alloc, set, &FOUR, &jobs, 8, &NoGate);
+    drop(jobs);
+    finished
 }
 
 // The rows have to be as at first.
+fn check_transfers<R: Threads + Wait + Abort + Sync>(rt: &R, alloc: Global, set: &RobustSet) {
+    let finished = transferred(rt, alloc, set);
+    check_commits(rt, alloc, &finished);
+    assert!(rt; has_rows(alloc, &finished.book, &FOUR) == Ok(true));
+    drop(finished);
+}
+
 #[test]
 fn a_hundred_transfers_commit_once_each(rt: HostRuntime) -> Result<(), Fail> {
-    let jobs = hundred_transfers(rt.alloc())?;
     let set = robust(rt.alloc(), &TRANSFERS)?;
-    let finished = run(&rt, rt.alloc(), &set, &FOUR, &jobs, 8, &NoGate);
-    check_commits(&rt, rt.alloc(), &finished);
-    check_rows(&rt, rt.alloc(), &finished.book);
-    drop(finished);
+    check_transfers(&rt, rt.alloc(), &set);
     drop(set);
     Ok(())
 }
@@ -65,42 +89,58 @@ const ENDS: &[(Came, u64)] = &[
     (Came::Committed(1, None), 0),
 ];
 
+fn check_ends<R: Threads + Wait + Abort + Sync>(rt: &R, alloc: Global, set: &RobustSet) {
+    let finished = run_calls(rt, alloc, set, &OPENING, CALLS, 1, &NoGate);
+    check_outcomes(rt, finished.outcomes.as_slice(), ENDS);
+    drop(finished);
+}
+
 #[test]
 fn jobs_end_in_each_way(rt: HostRuntime) -> Result<(), Fail> {
-    let jobs = jobs_of(rt.alloc(), CALLS)?;
     let set = robust(rt.alloc(), &OVERFLOW)?;
-    let finished = run(&rt, rt.alloc(), &set, &OPENING, &jobs, 1, &NoGate);
-    check_outcomes(&rt, finished.outcomes.as_slice(), ENDS);
-    drop(finished);
+    check_ends(&rt, rt.alloc(), &set);
     drop(set);
     Ok(())
 }
 
 // Does the same jobs by so many workers, without an order.
+fn done<'a, R: Threads + Wait + Abort + Sync>(
+    rt: &R,
+    alloc: Global,
+    set: &'a RobustSet,
+    jobs: &[Job],
+    workers: usize,
+) -> Worked<'a> {
+    let rows = rows_of(alloc, &OPENING).expect(rt, "memory");
+    do_jobs(rt, alloc, set, rows, jobs, workers, &NoGate).expect(rt, "no fault")
+}
+
+fn check_worked(rt: &impl Abort, alloc: Global, worked: &Worked<'_>) {
+    check_outcomes(rt, worked.outcomes.as_slice(), ENDS);
+    assert!(rt; has_rows(alloc, &worked.book, &LEFT) == Ok(true));
+}
+
+// However many workers there are, the jobs end in the same ways: none looks at what one changes.
 fn check_done<R: Threads + Wait + Abort + Sync>(
     rt: &R,
     alloc: Global,
     set: &RobustSet,
     jobs: &[Job],
-    workers: usize,
 ) {
-    let rows = rows_of(alloc, &OPENING).expect(rt, "memory");
-    let worked = do_jobs(rt, alloc, set, rows, jobs, workers, &NoGate).expect(rt, "no fault");
-    check_outcomes(rt, worked.outcomes.as_slice(), ENDS);
-    let left = rows_of(alloc, &LEFT).expect(rt, "memory");
-    assert!(rt; worked.book.table().expect(rt, "memory").is_same(&left));
-    drop(worked);
+    for workers in &[1, 2, 8] {
+        let worked = done(rt, alloc, set, jobs, *workers);
+        check_worked(rt, alloc, &worked);
+        drop(worked);
+    }
 }
 
-// However many workers there are, the jobs end in the same ways: none looks at what one changes.
 #[test]
 fn jobs_are_done_without_an_order(rt: HostRuntime) -> Result<(), Fail> {
     let jobs = jobs_of(rt.alloc(), CALLS)?;
     let set = robust(rt.alloc(), &OVERFLOW)?;
-    for workers in [1, 2, 8] {
-        check_done(&rt, rt.alloc(), &set, &jobs, workers);
-    }
+    check_done(&rt, rt.alloc(), &set, &jobs);
     drop(set);
+    drop(jobs);
     Ok(())
 }
 
@@ -119,6 +159,21 @@ fn refusal_of(ran: &Result<Finished<'_>, WorkFault<'_>>) -> Option<Refusal> {
     }
 }
 
+// What jobs without rows are refused for.
+fn refused<R: Threads + Wait + Abort + Sync, G: Gate + Sync>(
+    rt: &R,
+    alloc: Global,
+    set: &RobustSet,
+    jobs: &[Job],
+    workers: usize,
+    gate: &G,
+) -> Option<Refusal> {
+    let ran = run_jobs(rt, alloc, set, Rows::new(alloc), jobs, workers, gate);
+    let refusal = refusal_of(&ran);
+    drop(ran);
+    refusal
+}
+
 // Runs so many jobs by so many workers: they have to be refused, and nothing is started.
 fn check_refused<R: Threads + Wait + Clock + Abort + Sync>(
     rt: &R,
@@ -130,9 +185,8 @@ fn check_refused<R: Threads + Wait + Clock + Abort + Sync>(
 ) {
     let jobs = many(alloc, count).expect(rt, "memory");
     let gate = Meeting::new(rt, &[]);
-    let ran = run_jobs(rt, alloc, set, Rows::new(alloc), &jobs, workers, &gate);
-    let refusal = refusal_of(&ran);
-    drop(ran);
+    let refusal = refused(rt, alloc, set, &jobs, workers, &gate);
+    drop(jobs);
     assert!(rt; refusal == Some(wanted), "{count} jobs by {workers}");
     assert!(rt; !gate.came((0, Moment::Begun)));
 }
@@ -147,8 +201,8 @@ const ASKED: [(usize, usize, Refusal); 4] = [
 #[test]
 fn none_and_too_many_start_nothing(rt: HostRuntime) -> Result<(), Fail> {
     let set = robust(rt.alloc(), &REGISTERS)?;
-    for (workers, count, wanted) in ASKED {
-        check_refused(&rt, rt.alloc(), &set, workers, count, wanted);
+    for (workers, count, wanted) in &ASKED {
+        check_refused(&rt, rt.alloc(), &set, *workers, *count, *wanted);
     }
     drop(set);
     Ok(())
